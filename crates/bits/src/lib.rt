@@ -1,0 +1,4 @@
+// Bit columns over any word stores: `Bools` holds the bits, `RankSelect` counts them too.
+pub mod bools;
+pub mod rank_select;
+pub mod tail;

@@ -1,0 +1,129 @@
+use crate::astray;
+use crate::fill;
+use bits::rank_select::RankSelect;
+use refusals::display::FaultDisplay;
+use refusals::fault::Fault;
+use refusals::fault::FaultDebug;
+use refusals::fault::FaultPartialEq;
+use refusals::refusal::FaultRefusal;
+use refusals::refusal::Refusal;
+use std::test::*;
+use words::heap::HeapGrows;
+use words::heap::HeapReads;
+use words::heap::HeapWords;
+use words::lent::Lent;
+use words::lent::LentGrows;
+use words::lent::LentReads;
+use words::part::Part;
+use words::part::PartReads;
+use words::reading::GrowWords;
+use words::reading::ReadWords;
+use words::table::Table64;
+use words::table::TableGrows;
+use words::table::TableReads;
+
+#[test]
+fn refusals_in_words(rt: LibcRuntime) -> Result<(), Fail> {
+    let fault = Fault::Outside(7);
+    check(fault.number() == 1)?;
+    check(format!(rt.alloc(), "{fault}")?.as_str() == "index 7 is past the end (refusal 1)")?;
+    let fault = Fault::Slices(4, 2);
+    check(fault.number() == 10)?;
+    check_eq(fault.carried(), (4, 2))
+}
+
+#[test]
+fn a_buffer_of_no_words() -> Result<(), Fail> {
+    let mut words: [u64; 0] = [];
+    let mut store = Lent::new(&mut words, 9);
+    check(store.len() == 0)?;
+    check(store.capacity() == 0)?;
+    check_eq(store.put(1), Err(Fault::Full(0)))?;
+    check_eq(store.word(0), Err(Fault::Outside(0)))
+}
+
+#[test]
+fn a_used_length_is_cut() -> Result<(), Fail> {
+    let mut words = [7, 8, 9];
+    let mut store = Lent::new(&mut words, 5);
+    check(store.len() == 3)?;
+    check_eq(store.put(1), Err(Fault::Full(3)))?;
+    store.clear();
+    check_eq(store.put(4), Ok(()))?;
+    check(store.len() == 1)?;
+    check_eq(store.word(0), Ok(4))?;
+    check_eq(store.word(1), Err(Fault::Outside(1)))
+}
+
+#[test]
+fn a_table_fills_at_64() -> Result<(), Fail> {
+    let mut table = Table64::new();
+    for i in 0..64 {
+        table.put(i)?;
+    }
+    check_eq(table.put(64), Err(Fault::Full(64)))?;
+    check_eq(table.word(63), Ok(63))
+}
+
+#[test]
+fn memory_is_reserved(rt: LibcRuntime) -> Result<(), Fail> {
+    let mut store = HeapWords::new(rt.alloc(), 2)?;
+    check(store.capacity() == 2)?;
+    store.put(5)?;
+    store.put(6)?;
+    check_eq(store.put(7), Err(Fault::Full(2)))?;
+    check_eq(store.word(1), Ok(6))
+}
+
+#[test]
+fn a_part_only_reads() -> Result<(), Fail> {
+    let words = [3, 4];
+    let part = Part::new(&words);
+    check(part.len() == 2)?;
+    check_eq(part.word(1), Ok(4))?;
+    check_eq(part.word(2), Err(Fault::Outside(2)))
+}
+
+#[test]
+fn an_empty_column() -> Result<(), Fail> {
+    let column = RankSelect::new(Table64::new(), Table64::new());
+    check(column.len() == 0)?;
+    check_eq(column.rank(0), Ok(0))?;
+    check_eq(column.rank(1), Err(Fault::Outside(1)))?;
+    check_eq(column.get(0), Err(Fault::Outside(0)))
+}
+
+#[test]
+fn around_a_word() -> Result<(), Fail> {
+    let mut column = RankSelect::new(Table64::new(), Table64::new());
+    fill(&mut column, 63)?;
+    check_eq(astray(&column)?, 0)?;
+    column.push(true)?;
+    check_eq(astray(&column)?, 0)?;
+    column.push(true)?;
+    check_eq(astray(&column)?, 0)?;
+    check_eq(column.rank(65), Ok(23))
+}
+
+#[test]
+fn around_a_chunk() -> Result<(), Fail> {
+    let mut column = RankSelect::new(Table64::new(), Table64::new());
+    fill(&mut column, 1023)?;
+    check_eq(astray(&column)?, 0)?;
+    column.push(true)?;
+    check_eq(astray(&column)?, 0)?;
+    column.push(true)?;
+    check_eq(astray(&column)?, 0)?;
+    check_eq(column.rank(1025), Ok(343))
+}
+
+#[test]
+fn a_full_column_keeps_its_bits() -> Result<(), Fail> {
+    let mut counts = [0; 1];
+    let mut words = [0; 1];
+    let mut column = RankSelect::new(Lent::new(&mut counts, 0), Lent::new(&mut words, 0));
+    fill(&mut column, 127)?;
+    check_eq(column.push(true), Err(Fault::Full(127)))?;
+    check(column.len() == 127)?;
+    check_eq(column.rank(127), Ok(43))
+}
