@@ -16,21 +16,23 @@ use Rattle.bitlaws.specs.Bits.{ones-in, rank-of, Counted, Lagging}
 pub rank-append : (bs ys : List Bool) (i : ℕ) → i ≤ length bs → rank-of (bs ++ ys) i ≡ rank-of bs i
 rank-append bs ys i h = ap ones-in (take-append-le i bs ys h)
 
-pub lag : (cs : List ℕ) (bs ys : List Bool) → Counted cs bs → length ys ≤ 1024 → Lagging cs (bs ++ ys)
-lag cs bs ys h few = record {
+pub lag : (cs : List ℕ) (bs ys : List Bool) → Counted cs bs → Lagging cs (bs ++ ys)
+lag cs bs ys h = record {
   most = omega (arith, h .many, length-append bs ys);
-  near = omega (arith, h .many, length-append bs ys);
   each = λ j l. h .each j l ∙ sym (rank-append bs ys (1024 * (j + 1)) (omega (arith, h .many)));
 }
+
+pub counted-lags : (cs : List ℕ) (bs : List Bool) → Counted cs bs → Lagging cs bs
+counted-lags cs bs h = record { most = omega (arith, h .many); each = h .each }
 
 -- none is missing
 pub caught : (cs : List ℕ) (bs : List Bool) → Lagging cs bs → length bs / 1024 ≤ length cs → Counted cs bs
 caught cs bs h all = record { many = omega (arith, h .most); each = h .each }
 
--- the missing one is added
-pub catch : (cs : List ℕ) (bs : List Bool) (c : ℕ) → Lagging cs bs → length cs < length bs / 1024 → c ≡ rank-of bs (1024 * (length cs + 1)) → Counted (cs ++ (c ∷ [])) bs
+-- one that is missing is added
+pub catch : (cs : List ℕ) (bs : List Bool) (c : ℕ) → Lagging cs bs → length cs < length bs / 1024 → c ≡ rank-of bs (1024 * (length cs + 1)) → Lagging (cs ++ (c ∷ [])) bs
 catch cs bs c h short is = record {
-  many = omega (arith, length-push cs c, h .near);
+  most = omega (arith, length-push cs c);
   each = λ j l. ⊎-elim
       (λ (lt : j < length cs). getD-append-left cs (c ∷ []) 0 j lt ∙ h .each j lt)
       (λ (ge : length cs ≤ j).

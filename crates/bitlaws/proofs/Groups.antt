@@ -5,7 +5,7 @@ use mathlib.Core.Bool.{Bool, true, false, cond}
 use Prim.Native.Nat.{ℕ, zero, suc, _+_, _-_, _*_, _/_, _%_, _≤_, _<_, _^_}
 use native.Mathlib.Nat.{add-zero, mod-eq-of-lt, div-eq-of-lt, lt-of-lt-of-le}
 use native.Mathlib.Omega.{arith}
-use lib.ListN.{length, getD}
+use lib.ListN.{length, getD, take}
 use lib.Dec.{eqb, lit<}
 use lib.Bits.{bitOr, block-half, block-odd, or-shifted-r}
 use lib.Pow.{high, low, split, pow-mono}
@@ -14,7 +14,7 @@ use Rattle.std.proofs.shelf.Lists.{append-assoc, append-nil, getD-append-left, 
 use Rattle.std.proofs.shelf.Tests.{cases-lt, cases-order}
 use mathlib.Core.Logic.{⊎-elim}
 use Rattle.bitlaws.specs.Bits.{low-bits, word-bits, bits-of, Words64}
-use Rattle.bitlaws.proofs.Words.{words-append, low-split}
+use Rattle.bitlaws.proofs.Words.{words-append, low-split, take-low}
 
 -- what lies above the k lowest bits does not show in them
 pub low-above : (k a w : ℕ) → low-bits k (a * 2 ^ k + w) ≡ low-bits k w
@@ -56,7 +56,14 @@ fit-push ws w h fit i = ⊎-elim
     (λ (l : length ws < i). subst (λ (x : ℕ). x < 2 ^ 64) (sym (getD-past (ws ++ (w ∷ [])) i 0 (omega (arith, length-push ws w)))) (pow-pos 64)))
     (cases-order i (length ws))
 
+-- a cut at or above k leaves the k lowest bits
+pub low-cut-above : (k m w : ℕ) → k ≤ m → low-bits k (w % 2 ^ m) ≡ low-bits k w
+low-cut-above k m w h = sym (take-low k m (w % 2 ^ m) h) ∙ ap (take k) (low-cut m w) ∙ take-low k m w h
+
 module _ (t k a : ℕ) (clean : t < 2 ^ k) where
+  pub low-cat : (n : ℕ) → low-bits (k + n) (a * 2 ^ k + t) ≡ low-bits k t ++ low-bits n a
+  low-cat n = low-split k n (a * 2 ^ k + t) ∙ ap₂ (λ (x : List Bool) (y : ℕ). x ++ low-bits n y) (low-above k a t) (high a k clean)
+
   -- the group behind the tail, as bits
   pub bits-group : (ws : List ℕ) (n : ℕ) → word-bits ws ++ low-bits (k + n) (a * 2 ^ k + t) ≡ bits-of ws t k ++ low-bits n a
   bits-group ws n =

@@ -6,6 +6,8 @@ use mathlib.Core.Bool.{Bool, true, false, cond}
 use Prim.Native.Nat.{ℕ, zero, suc, _+_, _*_, _/_, _%_, _≤_, _<_, _^_}
 use lib.ListN.{length, getD, take}
 use lib.Dec.{eqb}
+use Rattle.std.specs.declared.option.Option.{Option}
+use Rattle.std.specs.declared.option.Option.the-variants.{Some, None}
 
 -- the most bits that a column may have
 abbrev pub most-bits : ℕ
@@ -34,6 +36,18 @@ ones-in (b ∷ bs) = cond b 1 0 + ones-in bs
 abbrev pub rank-of : List Bool → ℕ → ℕ
 rank-of bs i = ones-in (take i bs)
 
+-- the same place, one bit further on
+abbrev pub after : Option ℕ → Option ℕ
+after None = None
+after (Some p) = Some (suc p)
+
+-- select: the place of the r-th one, counted from 0, or none
+unfoldable pub select-of : List Bool → ℕ → Option ℕ
+select-of [] r = None
+select-of (true ∷ bs) zero = Some 0
+select-of (true ∷ bs) (suc r) = after (select-of bs r)
+select-of (false ∷ bs) r = after (select-of bs r)
+
 -- each word fits 64 bits
 abbrev pub Words64 : List ℕ → Type 0
 Words64 ws = (i : ℕ) → getD ws i 0 < 2 ^ 64
@@ -54,10 +68,9 @@ pub record Counted (cs : List ℕ) (bs : List Bool) : Type 0 where
   pub many : length cs ≡ length bs / 1024
   pub each : (j : ℕ) → j < length cs → getD cs j 0 ≡ rank-of bs (1024 * (j + 1))
 
--- the counts are right as far as they go, and at most one is missing
+-- the counts are right as far as they go
 pub record Lagging (cs : List ℕ) (bs : List Bool) : Type 0 where
   pub most : length cs ≤ length bs / 1024
-  pub near : length bs / 1024 ≤ length cs + 1
   pub each : (j : ℕ) → j < length cs → getD cs j 0 ≡ rank-of bs (1024 * (j + 1))
 
 -- a bit column is sound: words and tail hold its bits, and its counts count them

@@ -1,10 +1,11 @@
--- What rank means, above its definition.
+-- What rank, select and the holding of bits in words mean, above their definitions.
 use mathlib.Core.Path.{_≡_}
 use mathlib.Core.List.{List}
 use mathlib.Core.Bool.{Bool, true, false, cond}
 use Prim.Native.Nat.{ℕ, _+_, _≤_, _<_}
 use lib.ListN.{length, getD}
-use Rattle.bitlaws.specs.Bits.{rank-of}
+use Rattle.std.specs.declared.option.Option.the-variants.{Some, None}
+use Rattle.bitlaws.specs.Bits.{bits-of, rank-of, select-of, Sound}
 
 -- n is the number of ones below i: there is a rising list of n places that are just those
 pub record Ones-below (bs : List Bool) (i n : ℕ) : Type 0 where
@@ -25,3 +26,20 @@ Rank-steps = (bs : List Bool) → (rank-of bs 0 ≡ 0) × ((i : ℕ) → rank-of
 -- and so never falls
 abbrev pub Rank-rises : Type 0
 Rank-rises = (bs : List Bool) (i j : ℕ) → i ≤ j → rank-of bs i ≤ rank-of bs j
+
+-- p holds a one, and r ones stand before it
+pub record Selected (bs : List Bool) (r p : ℕ) : Type 0 where
+  pub one : getD bs p false ≡ true
+  pub rank : rank-of bs p ≡ r
+
+-- select r is p exactly when p holds a one and rank p is r
+abbrev pub Select-finds : Type 0
+Select-finds = (bs : List Bool) (r p : ℕ) → (select-of bs r ≡ Some p → Selected bs r p) × (Selected bs r p → select-of bs r ≡ Some p)
+
+-- and none exactly when there is no such p
+abbrev pub Select-lacks : Type 0
+Select-lacks = (bs : List Bool) (r : ℕ) → (select-of bs r ≡ None → (p : ℕ) → Selected bs r p → ⊥) × (((p : ℕ) → Selected bs r p → ⊥) → select-of bs r ≡ None)
+
+-- two sound columns with the same bits have the same counts, words and tail, however the bits came in
+abbrev pub One-holding : Type 0
+One-holding = (cs ws : List ℕ) (t k : ℕ) (ds vs : List ℕ) (u l : ℕ) → Sound cs ws t k → Sound ds vs u l → bits-of ws t k ≡ bits-of vs u l → (cs ≡ ds) × (ws ≡ vs) × (t ≡ u) × (k ≡ l)

@@ -1,6 +1,6 @@
 // The laws of bits, with no machine in them: each is the contract of a small function, and the
 // lemmas below them in proofs/ serve the crates above.
-ghost use Rattle.bitlaws.specs.Laws.{«Rank-counts», «Rank-steps», «Rank-rises»};
+ghost use Rattle.bitlaws.specs.Laws.{«Rank-counts», «Rank-steps», «Rank-rises», «Select-finds», «Select-lacks», «One-holding»};
 
 // rank(i) is the number of ones below i.
 pub fn rank_counts() -> u8
@@ -19,6 +19,27 @@ pub fn rank_steps() -> u8
 // rank never falls.
 pub fn rank_rises() -> u8
     ensures { λ _. ⌜ Rank-rises ⌝ }
+{
+    0
+}
+
+// select(r) is p exactly when p holds a one and rank(p) = r.
+pub fn select_finds() -> u8
+    ensures { λ _. ⌜ Select-finds ⌝ }
+{
+    0
+}
+
+// select(r) is none exactly when there is no such p.
+pub fn select_lacks() -> u8
+    ensures { λ _. ⌜ Select-lacks ⌝ }
+{
+    0
+}
+
+// Sound columns with the same bits have the same counts, words and tail.
+pub fn one_holding() -> u8
+    ensures { λ _. ⌜ One-holding ⌝ }
 {
     0
 }

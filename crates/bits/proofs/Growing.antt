@@ -3,19 +3,21 @@ use mathlib.Core.Path.{_≡_, refl, sym, _∙_, ap, ap₂, subst, subst₂}
 use mathlib.Core.List.{List, [], _∷_, _++_}
 use mathlib.Core.Bool.{Bool, true, false, cond, _&&_}
 use Prim.Native.Nat.{ℕ, _+_, _-_, _*_, _/_, _%_, _≤_, _<_, _^_}
+use mathlib.Core.Logic.{⊎-elim}
+use native.Mathlib.Nat.{div-eq-of-lt}
 use native.Mathlib.Omega.{arith}
 use lib.ListN.{length, getD}
-use lib.Dec.{leb, lit<}
+use lib.Dec.{leb, ltb, eqb, lit<}
 use Rattle.std.specs.declared.result.Result.the-variants.{Ok, Err}
-use Rattle.std.proofs.shelf.Bits.{mod-below, pow-pos}
+use Rattle.std.proofs.shelf.Bits.{mod-below, pow-pos, le-div}
 use Rattle.std.proofs.shelf.Lists.{length-push}
-use Rattle.std.proofs.shelf.Tests.{and-parts, leb-true}
+use Rattle.std.proofs.shelf.Tests.{and-parts, leb-true, ltb-true, eq-eqb, ne-eqb, le-leb, lt-ltb, le-ltb, lt-leb, cases-lt}
 use Rattle.refusals.specs.declared.fault.Fault.the-variants.{Full}
 use Rattle.bitlaws.specs.Bits.{most-bits, low-bits, word-bits, bits-of, Words64, Tailed, Held}
 use Rattle.bitlaws.proofs.Words.{length-bits}
 use mir.Val.{boolByte}
 use Rattle.bitlaws.proofs.Groups.{low-one, bits-carry, bits-group, fit-push, joined-lt, rest-lt}
-use Rattle.bits.specs.Columns.{fits-words, fits, push-answer, push-list}
+use Rattle.bits.specs.Columns.{fits-words, fits, push-answer, push-list, lawful-group}
 
 -- a bit, as the number that it is cast to
 pub bit-group : (b : Bool) → low-bits 1 (boolByte b) ≡ b ∷ []
@@ -102,3 +104,32 @@ fits-all n v k e =
 pub added : (bs more : List Bool) (ok : Bool) → Ok tt ≡ push-answer bs ok → push-list bs ok more ≡ bs ++ more
 added bs more true e = refl
 added bs more false e = let z : _≡_ {A = ℕ} 0 1 = cc in absurd (omega arith)
+
+-- `group >> n == 0`
+pub group-is : (a n : ℕ) → n < 64 → eqb (a / 2 ^ n) 0 ≡ lawful-group a n
+group-is a n h = ⊎-elim
+    (λ (lt : a < 2 ^ n). eq-eqb (a / 2 ^ n) 0 (div-eq-of-lt lt) ∙ sym (ap₂ (λ (x y : Bool). x && y) (le-leb n 64 (omega arith)) (lt-ltb a (2 ^ n) lt)))
+    (λ (ge : 2 ^ n ≤ a).
+    let some : 1 ≤ a / 2 ^ n = le-div 1 a (2 ^ n) (pow-pos n) (omega arith) in
+    ne-eqb (a / 2 ^ n) 0 (λ e. omega arith) ∙ sym (ap₂ (λ (x y : Bool). x && y) (le-leb n 64 (omega arith)) (le-ltb a (2 ^ n) ge)))
+    (cases-lt a (2 ^ n))
+
+-- `n == 64`
+pub group-whole : (a n : ℕ) → a < 2 ^ 64 → 64 ≤ n → eqb n 64 ≡ lawful-group a n
+group-whole a n fit h = ⊎-elim
+    (λ (lt : 64 < n). ne-eqb n 64 (λ e. omega arith) ∙ sym (ap (λ (x : Bool). x && ltb a (2 ^ n)) (lt-leb n 64 lt)))
+    (λ (le : n ≤ 64).
+    let e : 64 ≡ n = omega arith in
+    eq-eqb n 64 (sym e) ∙ sym (ap₂ (λ (x y : Bool). x && y) (le-leb n 64 le) (lt-ltb a (2 ^ n) (subst (λ (x : ℕ). a < 2 ^ x) e fit))))
+    (cases-lt 64 n)
+
+pub group-parts : (a n : ℕ) → lawful-group a n ≡ true → (n ≤ 64) × (a < 2 ^ n)
+group-parts a n e =
+    let p = and-parts (leb n 64) (ltb a (2 ^ n)) e in
+    (leb-true n 64 (p .0), ltb-true a (2 ^ n) (p .1))
+
+-- fewer bits fit too
+pub fits-fewer : (m n v : ℕ) → m ≤ n → fits-words n v ≡ true → fits-words m v ≡ true
+fits-fewer m n v h e =
+    let p = fits-parts n v e in
+    ap₂ (λ (x y : Bool). x && y) (le-leb m most-bits (omega (arith, p .0))) (le-leb (m / 64) v (omega (arith, p .1)))

@@ -1,2 +1,4 @@
 pub mod Reading
 pub mod Growing
+pub mod Halves
+pub mod Selecting

@@ -1,15 +1,15 @@
 -- What the calls of a bit column answer, over the list of its bits.
 use mathlib.Core.List.{List, [], _∷_, _++_}
 use mathlib.Core.Bool.{Bool, false, cond, _&&_}
-use Prim.Native.Nat.{ℕ, _+_, _/_}
-use lib.ListN.{length, getD}
+use Prim.Native.Nat.{ℕ, _+_, _-_, _/_, _^_}
+use lib.ListN.{length, getD, take, drop}
 use lib.Dec.{ltb, leb}
 use Rattle.std.specs.declared.result.Result.{Result}
 use Rattle.std.specs.declared.result.Result.the-variants.{Ok, Err}
 use Rattle.refusals.specs.declared.fault.Fault.{Fault}
-use Rattle.refusals.specs.declared.fault.Fault.the-variants.{Outside, Full}
+use Rattle.refusals.specs.declared.fault.Fault.the-variants.{Outside, Past, Full, Group}
 use Rattle.words.specs.declared.reading.ReadWords.{Ghosts}
-use Rattle.bitlaws.specs.Bits.{most-bits, bits-of, rank-of, Held, Sound}
+use Rattle.bitlaws.specs.Bits.{most-bits, low-bits, bits-of, rank-of, Held, Sound}
 use Rattle.bits.specs.declared.bools.Bools.{Bools}
 use Rattle.bits.specs.declared.rank_select.RankSelect.{RankSelect}
 
@@ -50,3 +50,25 @@ push-answer bs ok = cond ok (Ok tt) (Err (Full (length bs)))
 -- the bits after it
 abbrev pub push-list : List Bool → Bool → List Bool → List Bool
 push-list bs ok more = cond ok (bs ++ more) bs
+
+-- a group of n bits is lawful: n is at most 64, and no bit is set at or above n
+abbrev pub lawful-group : ℕ → ℕ → Bool
+lawful-group group n = leb n 64 && ltb group (2 ^ n)
+
+-- adding it: refusal 4 with n, then as above
+abbrev pub group-answer : List Bool → Bool → ℕ → ℕ → Result (Unit {0}) Fault
+group-answer bs ok group n = cond (lawful-group group n) (push-answer bs ok) (Err (Group n))
+
+abbrev pub group-list : List Bool → Bool → ℕ → ℕ → List Bool
+group-list bs ok group n = cond (lawful-group group n) (push-list bs ok (low-bits n group)) bs
+
+-- bits start to end - 1 of a source, none where start is at or above end
+abbrev pub range-of : List Bool → ℕ → ℕ → List Bool
+range-of src start end = take (end - start) (drop start src)
+
+-- adding them: refusal 2 with the end where it lies past the source, then as above
+abbrev pub append-answer : List Bool → Bool → List Bool → ℕ → Result (Unit {0}) Fault
+append-answer bs ok src end = cond (ltb (length src) end) (Err (Past end)) (push-answer bs ok)
+
+abbrev pub append-list : List Bool → Bool → List Bool → ℕ → ℕ → List Bool
+append-list bs ok src start end = cond (ltb (length src) end) bs (push-list bs ok (range-of src start end))

@@ -2,7 +2,8 @@ ghost use Prim.Native.Nat.{ℕ, _+_, _*_, _/_, _≤_, _<_, _^_};
 ghost use mathlib.Core.List.{List, [], _∷_, _++_};
 ghost use mathlib.Core.Path.{_≡_};
 ghost use mathlib.Core.Bool.{true};
-ghost use lib.ListN.{length, getD};
+ghost use lib.Count.{ones};
+ghost use lib.ListN.{length, getD, take, drop};
 ghost use Rattle.std.specs.declared.result.Result.the-variants.{Ok, Err};
 ghost use Rattle.bitlaws.specs.Bits.{«most-bits», «low-bits», «rank-of»};
 ghost use Rattle.bits.specs.Columns.{HeldIn, «bits-in», «get-answer», «fits-words», «push-answer», «push-list»};
@@ -14,6 +15,8 @@ use words::reading::MOST;
 use words::reading::ReadWords;
 use words::reading::put_in;
 use words::reading::word_of;
+
+pub mod growing;
 
 // Bits packed into full words and a tail, which is held as its two numbers.
 #[derive(Drop)]
@@ -31,8 +34,15 @@ impl<V: ReadWords> Bools<V> {
         WORD * self.values.len() + self.bits
     }
 
+    // The store of the full words.
+    pub fn words(&self) -> &V
+        ensures { λ r. ⌜ now r ≡ now (self .entry) .values ⌝ }
+    {
+        &self.values
+    }
+
     // The tail, with what soundness says of its two numbers in its type.
-    pub(crate) fn tail(&self) -> Tail
+    pub fn tail(&self) -> Tail
         requires { ⌜ HeldIn V·ReadWords (now self) ⌝ }
         ensures word { λ r. ⌜ r .word ≡ now (self .entry) .word ⌝ }
         ensures bits { λ r. ⌜ r .bits ≡ now (self .entry) .bits ⌝ }
@@ -79,67 +89,59 @@ impl<V: ReadWords> Bools<V> {
         }
         count
     }
-}
 
-impl<V: GrowWords> Bools<V> {
-    // No bits, over a store that is cleared.
-    pub fn new(mut values: V) -> Self
-        ensures list { λ r. ⌜ bits-in V·ReadWords r ≡ [] ⌝ }
-        ensures held { λ r. ⌜ HeldIn V·ReadWords r ⌝ }
-        ensures room { λ r. ⌜ V·GrowWords .room (r .values) ≡ V·GrowWords .room values ⌝ }
-    {
-        values.clear();
-        let tail = Tail::empty();
-        Bools {
-            values,
-            word: tail.word,
-            bits: tail.bits,
-        }
-    }
-
-    // Whether `n` bits are within the limit.
-    pub(crate) fn has_room(&self, n: usize) -> bool
-        ensures { λ r. ⌜ r ≡ fits-words n (V·GrowWords .room (now (self .entry) .values)) ⌝ }
-    {
-        n <= MOST && n / WORD <= self.values.capacity()
-    }
-
-    // Adds a group of `count` bits, lowest first, for which there is room.
-    pub(crate) fn add_bits(&mut self, group: u64, count: usize)
+    // The word with the one that `rank` ones stand before, or the tail's number, from the ones in the
+    // first `block` words on; and the ones before it.
+    pub(crate) fn word_with(&self, rank: u64, mut block: usize, mut count: u64) -> (usize, u64)
         requires held { ⌜ HeldIn V·ReadWords (now self) ⌝ }
-        requires group { ⌜ (group < 2 ^ count) × (count ≤ 64) ⌝ }
-        requires room { ⌜ fits-words (length (bits-in V·ReadWords (now self)) + count) (V·GrowWords .room (now self .values)) ≡ true ⌝ }
-        ensures list { λ _. ⌜ bits-in V·ReadWords (now (self .exit)) ≡ bits-in V·ReadWords (now (self .entry)) ++ low-bits count group ⌝ }
-        ensures held { λ _. ⌜ HeldIn V·ReadWords (now (self .exit)) ⌝ }
-        ensures room { λ _. ⌜ V·GrowWords .room (now (self .exit) .values) ≡ V·GrowWords .room (now (self .entry) .values) ⌝ }
+        requires within { ⌜ block ≤ length (V·ReadWords .words (now self .values)) ⌝ }
+        requires counted { ⌜ count ≡ rank-of (bits-in V·ReadWords (now self)) (64 * block) ⌝ }
+        requires below { ⌜ count ≤ rank ⌝ }
+        ensures within { λ r. ⌜ r .0 ≤ length (V·ReadWords .words (now (self .entry) .values)) ⌝ }
+        ensures counted { λ r. ⌜ r .1 ≡ rank-of (bits-in V·ReadWords (now (self .entry))) (64 * r .0) ⌝ }
+        ensures below { λ r. ⌜ r .1 ≤ rank ⌝ }
+        ensures above { λ r. ⌜ (r .0 < length (V·ReadWords .words (now (self .entry) .values)) → rank < r .1 + ones (getD (V·ReadWords .words (now (self .entry) .values)) (r .0) 0)) ⌝ }
     {
-        let tail = self.tail();
-        if tail.bits + count < WORD {
-            let next = tail.with(group, count);
-            self.word = next.word;
-            self.bits = next.bits;
-            return;
+        while block < self.values.len() {
+            let pop = word_of(&self.values, block).count_ones() as u64;
+            if count + pop > rank {
+                break;
+            }
+            count += pop;
+            block += 1;
         }
-        put_in(&mut self.values, tail.joined(group));
-        let next = tail.rest(group, count);
-        self.word = next.word;
-        self.bits = next.bits;
+        (block, count)
     }
 
-    // Adds a bit, refused with 3 where the limit would be passed.
-    pub fn push(&mut self, bit: bool) -> Result<(), Fault>
-        requires { ⌜ HeldIn V·ReadWords (now self) ⌝ }
-        ensures answer { λ r. ⌜ r ≡ push-answer (bits-in V·ReadWords (now (self .entry))) (fits-words (length (bits-in V·ReadWords (now (self .entry))) + 1) (V·GrowWords .room (now (self .entry) .values))) ⌝ }
-        ensures list { λ _. ⌜ bits-in V·ReadWords (now (self .exit)) ≡ push-list (bits-in V·ReadWords (now (self .entry))) (fits-words (length (bits-in V·ReadWords (now (self .entry))) + 1) (V·GrowWords .room (now (self .entry) .values))) (bit ∷ []) ⌝ }
-        ensures held { λ _. ⌜ HeldIn V·ReadWords (now (self .exit)) ⌝ }
-        ensures room { λ _. ⌜ V·GrowWords .room (now (self .exit) .values) ≡ V·GrowWords .room (now (self .entry) .values) ⌝ }
-        ensures same { λ r. ⌜ elim r [ Ok _ ↦ Unit {0} | Err _ ↦ now (self .exit) ≡ now (self .entry) ] ⌝ }
+    // The bits from `pos` on, of which the lowest `count` are those asked for.
+    fn bits_from(&self, pos: usize, count: usize) -> u64
+        requires held { ⌜ HeldIn V·ReadWords (now self) ⌝ }
+        requires count { ⌜ (0 < count) × (count ≤ 64) ⌝ }
+        requires within { ⌜ pos + count ≤ length (bits-in V·ReadWords (now self)) ⌝ }
+        ensures { λ r. ⌜ low-bits count r ≡ take count (drop pos (bits-in V·ReadWords (now (self .entry)))) ⌝ }
     {
-        let n = self.len();
-        if !self.has_room(n + 1) {
-            return Err(Fault::Full(n));
+        let block = pos / WORD;
+        let bit = pos % WORD;
+        let low = self.word(block) >> bit;
+        if bit + count <= WORD {
+            return low;
         }
-        self.add_bits(bit as u64, 1);
-        Ok(())
+        low | (self.word(block + 1) << (WORD - bit))
+    }
+
+    // The `count` bits from `pos` on, lowest first, and no bit above them.
+    pub(crate) fn bits_at(&self, pos: usize, count: usize) -> u64
+        requires held { ⌜ HeldIn V·ReadWords (now self) ⌝ }
+        requires count { ⌜ (0 < count) × (count ≤ 64) ⌝ }
+        requires within { ⌜ pos + count ≤ length (bits-in V·ReadWords (now self)) ⌝ }
+        ensures list { λ r. ⌜ low-bits count r ≡ take count (drop pos (bits-in V·ReadWords (now (self .entry)))) ⌝ }
+        ensures clean { λ r. ⌜ r < 2 ^ count ⌝ }
+    {
+        let bits = self.bits_from(pos, count);
+        if count < WORD {
+            bits & ((1 << count) - 1)
+        } else {
+            bits
+        }
     }
 }

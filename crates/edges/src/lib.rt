@@ -40,5 +40,75 @@ pub fn astray<C: ReadWords, V: ReadWords>(column: &RankSelect<C, V>) -> Result<u
     Ok(wrong)
 }
 
+// At how many ranks select is another place than that of the ones in order.
+pub fn misplaced<C: ReadWords, V: ReadWords>(column: &RankSelect<C, V>) -> Result<usize, Fault>
+    requires { ⌜ SoundIn C·ReadWords V·ReadWords (now column) ⌝ }
+    ensures { λ _. ⌜ SoundIn C·ReadWords V·ReadWords (now (column .exit)) ⌝ }
+{
+    let mut wrong = 0usize;
+    let mut ones = 0u64;
+    for i in 0..column.len() {
+        if column.get(i)? {
+            if column.select(ones) != Some(i) {
+                wrong = wrong.saturating_add(1);
+            }
+            ones = ones.saturating_add(1);
+        }
+    }
+    if column.select(ones) != None {
+        wrong = wrong.saturating_add(1);
+    }
+    Ok(wrong)
+}
+
+// At how many places two columns differ, and how much longer one is.
+pub fn unlike<C: ReadWords, V: ReadWords>(
+    a: &RankSelect<C, V>,
+    b: &RankSelect<C, V>,
+) -> Result<usize, Fault>
+    requires a { ⌜ SoundIn C·ReadWords V·ReadWords (now a) ⌝ }
+    requires b { ⌜ SoundIn C·ReadWords V·ReadWords (now b) ⌝ }
+    ensures { λ _. ⌜ SoundIn C·ReadWords V·ReadWords (now (a .exit)) ⌝ }
+{
+    let mut wrong = a.len().abs_diff(b.len());
+    for i in 0..a.len().min(b.len()) {
+        if a.get(i)? != b.get(i)? {
+            wrong = wrong.saturating_add(1);
+        }
+    }
+    Ok(wrong)
+}
+
+// Pushes bits `start` to `end - 1` of a source one by one.
+pub fn push_range<C: GrowWords, V: GrowWords>(
+    column: &mut RankSelect<C, V>,
+    source: &RankSelect<C, V>,
+    start: usize,
+    end: usize,
+) -> Result<(), Fault>
+    requires column { ⌜ SoundIn C·ReadWords V·ReadWords (now column) ⌝ }
+    requires source { ⌜ SoundIn C·ReadWords V·ReadWords (now source) ⌝ }
+    ensures { λ _. ⌜ SoundIn C·ReadWords V·ReadWords (now (column .exit)) ⌝ }
+{
+    for i in start..end {
+        column.push(source.get(i)?)?;
+    }
+    Ok(())
+}
+
+// Pushes `n` words of ones.
+pub fn push_words<C: GrowWords, V: GrowWords>(
+    column: &mut RankSelect<C, V>,
+    n: usize,
+) -> Result<(), Fault>
+    requires { ⌜ SoundIn C·ReadWords V·ReadWords (now column) ⌝ }
+    ensures { λ _. ⌜ SoundIn C·ReadWords V·ReadWords (now (column .exit)) ⌝ }
+{
+    for _ in 0..n {
+        column.push_bits(u64::MAX, 64)?;
+    }
+    Ok(())
+}
+
 #[cfg(test)]
 mod tests;

@@ -1,5 +1,9 @@
 use crate::astray;
 use crate::fill;
+use crate::misplaced;
+use crate::push_range;
+use crate::push_words;
+use crate::unlike;
 use bits::rank_select::RankSelect;
 use refusals::display::FaultDisplay;
 use refusals::fault::Fault;
@@ -126,4 +130,59 @@ fn a_full_column_keeps_its_bits() -> Result<(), Fail> {
     check_eq(column.push(true), Err(Fault::Full(127)))?;
     check(column.len() == 127)?;
     check_eq(column.rank(127), Ok(43))
+}
+
+#[test]
+fn ranges_from_within_words() -> Result<(), Fail> {
+    let mut source = RankSelect::new(Table64::new(), Table64::new());
+    fill(&mut source, 1500)?;
+    let mut whole = RankSelect::new(Table64::new(), Table64::new());
+    let mut single = RankSelect::new(Table64::new(), Table64::new());
+    whole.append(&source, 0, 1)?;
+    push_range(&mut single, &source, 0, 1)?;
+    whole.append(&source, 29, 151)?;
+    push_range(&mut single, &source, 29, 151)?;
+    whole.append(&source, 64, 1499)?;
+    push_range(&mut single, &source, 64, 1499)?;
+    whole.append(&source, 1023, 1500)?;
+    push_range(&mut single, &source, 1023, 1500)?;
+    check_eq(unlike(&whole, &single)?, 0)?;
+    check_eq(astray(&whole)?, 0)?;
+    check_eq(misplaced(&whole)?, 0)?;
+    check_eq(whole.values().tail().word, single.values().tail().word)
+}
+
+#[test]
+fn ranges_that_are_refused() -> Result<(), Fail> {
+    let mut source = RankSelect::new(Table64::new(), Table64::new());
+    fill(&mut source, 10)?;
+    let mut words = [0; 1];
+    let mut counts = [0; 0];
+    let mut column = RankSelect::new(Lent::new(&mut counts, 0), Lent::new(&mut words, 0));
+    check_eq(column.append(&source, 20, 11), Err(Fault::Past(11)))?;
+    check_eq(column.append(&source, 20, 10), Ok(()))?;
+    fill(&mut column, 120)?;
+    check_eq(column.append(&source, 0, 8), Err(Fault::Full(120)))?;
+    check_eq(column.append(&source, 0, 7), Ok(()))?;
+    check_eq(column.rank(127), Ok(43))
+}
+
+#[test]
+fn groups_around_a_word() -> Result<(), Fail> {
+    let mut column = RankSelect::new(Table64::new(), Table64::new());
+    check_eq(column.push_bits(0, 65), Err(Fault::Group(65)))?;
+    check_eq(column.push_bits(2, 1), Err(Fault::Group(1)))?;
+    check_eq(column.push_bits(1, 0), Err(Fault::Group(0)))?;
+    check_eq(column.push_bits(0, 0), Ok(()))?;
+    check(column.len() == 0)?;
+    push_words(&mut column, 17)?;
+    check_eq(column.rank(1024), Ok(1024))?;
+    column.push_bits(5, 3)?;
+    column.push_bits(u64::MAX, 64)?;
+    check_eq(astray(&column)?, 0)?;
+    check_eq(misplaced(&column)?, 0)?;
+    check_eq(column.values().tail().word, 7)?;
+    column.clear();
+    check_eq(column.len(), 0)?;
+    check_eq(column.select(0), None)
 }

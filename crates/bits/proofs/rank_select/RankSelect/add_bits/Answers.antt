@@ -28,7 +28,7 @@ update-counts-requires g c κs =
     let all = fits-all (length bs + n) (g .V·GrowWords .room (s .values .values)) (g .C·GrowWords .room (s .counts)) (c .pre .room) in
     record {
       held = c .add-bits .ensures .held;
-      lagging = subst (λ (x : List Bool). Lagging cs x) (sym (c .add-bits .ensures .list)) (lag cs bs more (c .pre .sound .counted) (omega (arith, long, c .pre .group .1)));
+      lagging = subst (λ (x : List Bool). Lagging cs x) (sym (c .add-bits .ensures .list)) (lag cs bs more (c .pre .sound .counted));
       room = subst (λ (x : ℕ). x / 1024 ≤ g .C·GrowWords .room (s .counts)) (sym (ap length (c .add-bits .ensures .list) ∙ length-append bs more ∙ ap (λ (x : ℕ). length bs + x) long)) (all .1);
     }
 
