@@ -6,3 +6,4 @@ pub mod Selects
 pub mod InWord
 pub mod Ranges
 pub mod Holding
+pub mod Firsts

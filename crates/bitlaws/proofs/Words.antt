@@ -169,3 +169,6 @@ ones-in-le (false ∷ bs) = omega (arith, ones-in-le bs)
 
 pub rank-le : (bs : List Bool) (i : ℕ) → rank-of bs i ≤ length bs
 rank-le bs i = omega (arith, ones-in-le (take i bs), length-take i bs)
+
+pub rank-under : (bs : List Bool) (i : ℕ) → rank-of bs i ≤ i
+rank-under bs i = omega (arith, ones-in-le (take i bs), length-take i bs)

@@ -48,6 +48,10 @@ select-of (true ∷ bs) zero = Some 0
 select-of (true ∷ bs) (suc r) = after (select-of bs r)
 select-of (false ∷ bs) r = after (select-of bs r)
 
+-- the first one at or after p, or none: that which rank p ones stand before
+abbrev pub first-from : List Bool → ℕ → Option ℕ
+first-from bs p = select-of bs (rank-of bs p)
+
 -- each word fits 64 bits
 abbrev pub Words64 : List ℕ → Type 0
 Words64 ws = (i : ℕ) → getD ws i 0 < 2 ^ 64

@@ -5,7 +5,7 @@ use mathlib.Core.Bool.{Bool, true, false, cond}
 use Prim.Native.Nat.{ℕ, _+_, _≤_, _<_}
 use lib.ListN.{length, getD}
 use Rattle.std.specs.declared.option.Option.the-variants.{Some, None}
-use Rattle.bitlaws.specs.Bits.{bits-of, rank-of, select-of, Sound}
+use Rattle.bitlaws.specs.Bits.{bits-of, rank-of, select-of, first-from, Sound}
 
 -- n is the number of ones below i: there is a rising list of n places that are just those
 pub record Ones-below (bs : List Bool) (i n : ℕ) : Type 0 where
@@ -39,6 +39,19 @@ Select-finds = (bs : List Bool) (r p : ℕ) → (select-of bs r ≡ Some p → S
 -- and none exactly when there is no such p
 abbrev pub Select-lacks : Type 0
 Select-lacks = (bs : List Bool) (r : ℕ) → (select-of bs r ≡ None → (p : ℕ) → Selected bs r p → ⊥) × (((p : ℕ) → Selected bs r p → ⊥) → select-of bs r ≡ None)
+
+-- q is the first one at or after p
+pub record First (bs : List Bool) (p q : ℕ) : Type 0 where
+  pub from : p ≤ q
+  pub one : getD bs q false ≡ true
+  pub none : (j : ℕ) → p ≤ j → j < q → getD bs j false ≡ false
+
+abbrev pub First-finds : Type 0
+First-finds = (bs : List Bool) (p q : ℕ) → (first-from bs p ≡ Some q → First bs p q) × (First bs p q → first-from bs p ≡ Some q)
+
+-- and there is none exactly when no place at or after p holds a one
+abbrev pub First-lacks : Type 0
+First-lacks = (bs : List Bool) (p : ℕ) → (first-from bs p ≡ None → (q : ℕ) → p ≤ q → getD bs q false ≡ true → ⊥) × (((q : ℕ) → p ≤ q → getD bs q false ≡ true → ⊥) → first-from bs p ≡ None)
 
 -- two sound columns with the same bits have the same counts, words and tail, however the bits came in
 abbrev pub One-holding : Type 0

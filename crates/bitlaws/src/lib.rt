@@ -1,6 +1,6 @@
 // The laws of bits, with no machine in them: each is the contract of a small function, and the
 // lemmas below them in proofs/ serve the crates above.
-ghost use Rattle.bitlaws.specs.Laws.{«Rank-counts», «Rank-steps», «Rank-rises», «Select-finds», «Select-lacks», «One-holding»};
+ghost use Rattle.bitlaws.specs.Laws.{«Rank-counts», «Rank-steps», «Rank-rises», «Select-finds», «Select-lacks», «First-finds», «First-lacks», «One-holding»};
 
 // rank(i) is the number of ones below i.
 pub fn rank_counts() -> u8
@@ -33,6 +33,20 @@ pub fn select_finds() -> u8
 // select(r) is none exactly when there is no such p.
 pub fn select_lacks() -> u8
     ensures { λ _. ⌜ Select-lacks ⌝ }
+{
+    0
+}
+
+// The first one at or after p is q exactly when q holds a one, and none between p and q does.
+pub fn first_finds() -> u8
+    ensures { λ _. ⌜ First-finds ⌝ }
+{
+    0
+}
+
+// There is none exactly when no place at or after p holds a one.
+pub fn first_lacks() -> u8
+    ensures { λ _. ⌜ First-lacks ⌝ }
 {
     0
 }

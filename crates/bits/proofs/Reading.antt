@@ -11,9 +11,10 @@ use lib.Count.{ones}
 use Rattle.std.specs.declared.result.Result.the-variants.{Ok, Err}
 use Rattle.std.proofs.shelf.Bits.{one-shl}
 use Rattle.std.proofs.shelf.Tests.{lt-ltb, le-leb}
-use Rattle.bitlaws.specs.Bits.{bits-of, rank-of}
+use Rattle.std.specs.declared.option.Option.{Option}
+use Rattle.bitlaws.specs.Bits.{bits-of, rank-of, first-from}
 use Rattle.bitlaws.proofs.Words.{length-bits, bit-at, rank-at}
-use Rattle.bits.specs.Columns.{get-answer, rank-answer}
+use Rattle.bits.specs.Columns.{get-answer, rank-answer, first-answer}
 
 module _ (ws : List ℕ) (t k i w : ℕ) (few : k < 64) (is : w ≡ getD ws (i / 64) t) where
   pub get-is : i < length (bits-of ws t k) → Ok (eqb (bitAnd (w / 2 ^ (i % 64)) 1) 1) ≡ get-answer (bits-of ws t k) i
@@ -30,3 +31,6 @@ module _ (ws : List ℕ) (t k i w : ℕ) (few : k < 64) (is : w ≡ getD ws (i /
 
 pub rank-is : (bs : List Bool) (i n : ℕ) → i ≤ length bs → n ≡ rank-of bs i → Ok n ≡ rank-answer bs i
 rank-is bs i n h e = ap Ok e ∙ simp (le-leb i (length bs) h)
+
+pub first-is : (bs : List Bool) (i : ℕ) (o : Option ℕ) → i ≤ length bs → o ≡ first-from bs i → Ok o ≡ first-answer bs i
+first-is bs i o h e = ap Ok e ∙ simp (le-leb i (length bs) h)

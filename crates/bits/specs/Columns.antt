@@ -4,12 +4,13 @@ use mathlib.Core.Bool.{Bool, false, cond, _&&_}
 use Prim.Native.Nat.{ℕ, _+_, _-_, _/_, _^_}
 use lib.ListN.{length, getD, take, drop}
 use lib.Dec.{ltb, leb}
+use Rattle.std.specs.declared.option.Option.{Option}
 use Rattle.std.specs.declared.result.Result.{Result}
 use Rattle.std.specs.declared.result.Result.the-variants.{Ok, Err}
 use Rattle.refusals.specs.declared.fault.Fault.{Fault}
 use Rattle.refusals.specs.declared.fault.Fault.the-variants.{Outside, Past, Full, Group}
 use Rattle.words.specs.declared.reading.ReadWords.{Ghosts}
-use Rattle.bitlaws.specs.Bits.{most-bits, low-bits, bits-of, rank-of, Held, Sound}
+use Rattle.bitlaws.specs.Bits.{most-bits, low-bits, bits-of, rank-of, first-from, Held, Sound}
 use Rattle.bits.specs.declared.bools.Bools.{Bools}
 use Rattle.bits.specs.declared.rank_select.RankSelect.{RankSelect}
 
@@ -34,6 +35,10 @@ get-answer bs i = cond (ltb i (length bs)) (Ok (getD bs i false)) (Err (Outside 
 -- the number of ones below i, or refusal 1
 abbrev pub rank-answer : List Bool → ℕ → Result ℕ Fault
 rank-answer bs i = cond (leb i (length bs)) (Ok (rank-of bs i)) (Err (Outside i))
+
+-- the first one at or after i, or refusal 1
+abbrev pub first-answer : List Bool → ℕ → Result (Option ℕ) Fault
+first-answer bs i = cond (leb i (length bs)) (Ok (first-from bs i)) (Err (Outside i))
 
 -- whether n bits are within the limit, where there may be `values` full words
 abbrev pub fits-words : ℕ → ℕ → Bool

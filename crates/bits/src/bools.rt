@@ -5,8 +5,8 @@ ghost use mathlib.Core.Bool.{true};
 ghost use lib.Count.{ones};
 ghost use lib.ListN.{length, getD, take, drop};
 ghost use Rattle.std.specs.declared.result.Result.the-variants.{Ok, Err};
-ghost use Rattle.bitlaws.specs.Bits.{«most-bits», «low-bits», «rank-of»};
-ghost use Rattle.bits.specs.Columns.{HeldIn, «bits-in», «get-answer», «fits-words», «push-answer», «push-list»};
+ghost use Rattle.bitlaws.specs.Bits.{«most-bits», «low-bits», «rank-of», «first-from»};
+ghost use Rattle.bits.specs.Columns.{HeldIn, «bits-in», «get-answer», «first-answer», «fits-words», «push-answer», «push-list»};
 use crate::tail::Tail;
 use crate::tail::WORD;
 use refusals::fault::Fault;
@@ -111,6 +111,37 @@ impl<V: ReadWords> Bools<V> {
             block += 1;
         }
         (block, count)
+    }
+
+    // The first one in word `block` or behind it, the tail's included, or none.
+    fn first_in(&self, mut block: usize) -> Option<usize>
+        requires { ⌜ HeldIn V·ReadWords (now self) ⌝ }
+        ensures { λ r. ⌜ r ≡ first-from (bits-in V·ReadWords (now (self .entry))) (64 * block) ⌝ }
+    {
+        while block <= self.values.len() {
+            let word = self.word(block);
+            if word != 0 {
+                return Some(WORD * block + word.trailing_zeros() as usize);
+            }
+            block += 1;
+        }
+        None
+    }
+
+    // The first one at or after `pos`, or none; refused with 1 above the length.
+    pub fn first_from(&self, pos: usize) -> Result<Option<usize>, Fault>
+        requires { ⌜ HeldIn V·ReadWords (now self) ⌝ }
+        ensures { λ r. ⌜ r ≡ first-answer (bits-in V·ReadWords (now (self .entry))) pos ⌝ }
+    {
+        if pos > self.len() {
+            return Err(Fault::Outside(pos));
+        }
+        let block = pos / WORD;
+        let here = self.word(block) >> (pos % WORD);
+        if here != 0 {
+            return Ok(Some(pos + here.trailing_zeros() as usize));
+        }
+        Ok(self.first_in(block + 1))
     }
 
     // The bits from `pos` on, of which the lowest `count` are those asked for.

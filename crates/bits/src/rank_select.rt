@@ -5,7 +5,7 @@ ghost use mathlib.Core.Path.{_≡_};
 ghost use lib.ListN.{length, getD};
 ghost use Rattle.std.specs.declared.result.Result.the-variants.{Ok, Err};
 ghost use Rattle.bitlaws.specs.Bits.{«rank-of», «select-of», Lagging};
-ghost use Rattle.bits.specs.Columns.{HeldIn, SoundIn, «column-bits», «get-answer», «rank-answer», fits, «push-answer», «push-list»};
+ghost use Rattle.bits.specs.Columns.{HeldIn, SoundIn, «column-bits», «get-answer», «rank-answer», «first-answer», fits, «push-answer», «push-list»};
 use crate::bools::Bools;
 use crate::in_word::select_in_word;
 use crate::tail::WORD;
@@ -58,6 +58,14 @@ impl<C: ReadWords, V: ReadWords> RankSelect<C, V> {
         ensures { λ r. ⌜ r ≡ get-answer (column-bits V·ReadWords (now (self .entry))) index ⌝ }
     {
         self.values.get(index)
+    }
+
+    // The first one at or after `pos`, or none; refused with 1 above the length.
+    pub fn first_from(&self, pos: usize) -> Result<Option<usize>, Fault>
+        requires { ⌜ SoundIn C·ReadWords V·ReadWords (now self) ⌝ }
+        ensures { λ r. ⌜ r ≡ first-answer (column-bits V·ReadWords (now (self .entry))) pos ⌝ }
+    {
+        self.values.first_from(pos)
     }
 
     // The ones before chunk `chunk`: the count of the chunk before it.

@@ -1,6 +1,7 @@
 // Tests of the low crates at their edges; the functions here only fill and compare.
 ghost use Rattle.bits.specs.Columns.{SoundIn};
 use bits::rank_select::RankSelect;
+use cursor::cursor::Cursor;
 use refusals::fault::Fault;
 use words::reading::GrowWords;
 use words::reading::ReadWords;
@@ -108,6 +109,29 @@ pub fn push_words<C: GrowWords, V: GrowWords>(
         column.push_bits(u64::MAX, 64)?;
     }
     Ok(())
+}
+
+// At how many calls a walk by next_one answers another place than select, and a walk by step another bit
+// than get.
+pub fn stray_walks<C: ReadWords, V: ReadWords>(column: &RankSelect<C, V>) -> Result<usize, Fault>
+    requires { ⌜ SoundIn C·ReadWords V·ReadWords (now column) ⌝ }
+    ensures { λ _. ⌜ SoundIn C·ReadWords V·ReadWords (now (column .exit)) ⌝ }
+{
+    let mut wrong = 0usize;
+    let mut ones = Cursor::new(column);
+    let mut bits = Cursor::new(column);
+    for i in 0..column.len() {
+        if ones.next_one(column)? != column.select(i as u64) {
+            wrong = wrong.saturating_add(1);
+        }
+        if bits.step(column)? != Some(column.get(i)?) || bits.rank() != column.rank(i + 1)? as u64 {
+            wrong = wrong.saturating_add(1);
+        }
+    }
+    if ones.next_one(column)? != None || bits.step(column)? != None {
+        wrong = wrong.saturating_add(1);
+    }
+    Ok(wrong)
 }
 
 #[cfg(test)]

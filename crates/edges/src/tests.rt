@@ -3,8 +3,10 @@ use crate::fill;
 use crate::misplaced;
 use crate::push_range;
 use crate::push_words;
+use crate::stray_walks;
 use crate::unlike;
 use bits::rank_select::RankSelect;
+use cursor::cursor::Cursor;
 use refusals::display::FaultDisplay;
 use refusals::fault::Fault;
 use refusals::fault::FaultDebug;
@@ -185,4 +187,52 @@ fn groups_around_a_word() -> Result<(), Fail> {
     column.clear();
     check_eq(column.len(), 0)?;
     check_eq(column.select(0), None)
+}
+
+#[test]
+fn walks_with_tails_of_every_kind() -> Result<(), Fail> {
+    let mut column = RankSelect::new(Table64::new(), Table64::new());
+    check_eq(stray_walks(&column)?, 0)?;
+    fill(&mut column, 63)?;
+    check_eq(stray_walks(&column)?, 0)?;
+    column.push(true)?;
+    check_eq(stray_walks(&column)?, 0)?;
+    column.push(true)?;
+    check_eq(stray_walks(&column)?, 0)?;
+    fill(&mut column, 1100)?;
+    check_eq(stray_walks(&column)?, 0)
+}
+
+#[test]
+fn walks_behind_a_word() -> Result<(), Fail> {
+    let mut column = RankSelect::new(Table64::new(), Table64::new());
+    column.push_bits(1 << 63, 64)?;
+    column.push_bits(1, 64)?;
+    column.push_bits(2, 2)?;
+    let mut cursor = Cursor::new(&column);
+    check_eq(cursor.next_one(&column), Ok(Some(63)))?;
+    check_eq(cursor.step(&column), Ok(Some(true)))?;
+    check_eq(cursor.next_one(&column), Ok(Some(129)))?;
+    check_eq(cursor.next_one(&column), Ok(None))?;
+    check_eq((cursor.pos(), cursor.rank()), (130, 3))
+}
+
+#[test]
+fn seeks_and_their_refusals() -> Result<(), Fail> {
+    let mut column = RankSelect::new(Table64::new(), Table64::new());
+    fill(&mut column, 200)?;
+    let mut cursor = Cursor::new(&column);
+    check_eq(cursor.seek_to_pos(&column, 100), Ok(true))?;
+    check_eq((cursor.pos(), cursor.rank()), (100, 34))?;
+    check_eq(cursor.seek_to_pos(&column, 99), Err(Fault::Behind(99)))?;
+    check_eq(cursor.seek_to_rank(&column, 33), Err(Fault::Behind(33)))?;
+    check_eq(cursor.seek_to_rank(&column, 34), Ok(Some(102)))?;
+    check_eq(cursor.seek_to_rank(&column, 1 << 32), Ok(None))?;
+    check_eq((cursor.pos(), cursor.rank()), (200, 64))?;
+    column.push(true)?;
+    check_eq(cursor.step(&column), Err(Fault::Length(201)))?;
+    check_eq(
+        (cursor.pos(), cursor.rank(), cursor.total_bits()),
+        (200, 64, 200),
+    )
 }

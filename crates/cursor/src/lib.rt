@@ -1,0 +1,3 @@
+// Forward walks over a bit column.
+pub mod cursor;
+pub mod laws;
