@@ -11,6 +11,7 @@ use crate::bools::growing::is_group;
 use crate::rank_select::BITS_PER_CHUNK;
 use crate::rank_select::RankSelect;
 use crate::rank_select::WORDS_PER_CHUNK;
+use crate::tail::WORD;
 use refusals::fault::Fault;
 use words::reading::GrowWords;
 use words::reading::ReadWords;
@@ -85,6 +86,30 @@ impl<C: GrowWords, V: GrowWords> RankSelect<C, V> {
         self.update_counts();
     }
 
+    // Whether one more bit stays in the tail: then no limit is passed and no count is due. The capacities
+    // are asked for nothing but their promise that the stores are within them.
+    fn stays_in_tail(&self) -> bool
+        requires { ⌜ SoundIn C·ReadWords V·ReadWords (now self) ⌝ }
+        ensures { λ r. ⌜ (r ≡ true → (now (self .entry) .values .bits < 63) × (fits (length (column-bits V·ReadWords (now (self .entry))) + 1) (V·GrowWords .room (now (self .entry) .values .values)) (C·GrowWords .room (now (self .entry) .counts)) ≡ true)) ⌝ }
+    {
+        let _ = self.counts.capacity();
+        let _ = self.values.words().capacity();
+        self.values.tail().bits < WORD - 1
+    }
+
+    // Adds a bit that stays in the tail.
+    fn add_to_tail(&mut self, bit: bool)
+        requires sound { ⌜ SoundIn C·ReadWords V·ReadWords (now self) ⌝ }
+        requires stays { ⌜ now self .values .bits < 63 ⌝ }
+        requires room { ⌜ fits (length (column-bits V·ReadWords (now self)) + 1) (V·GrowWords .room (now self .values .values)) (C·GrowWords .room (now self .counts)) ≡ true ⌝ }
+        ensures list { λ _. ⌜ column-bits V·ReadWords (now (self .exit)) ≡ column-bits V·ReadWords (now (self .entry)) ++ (bit ∷ []) ⌝ }
+        ensures sound { λ _. ⌜ SoundIn C·ReadWords V·ReadWords (now (self .exit)) ⌝ }
+        ensures room { λ _. ⌜ V·GrowWords .room (now (self .exit) .values .values) ≡ V·GrowWords .room (now (self .entry) .values .values) ⌝ }
+        ensures others { λ _. ⌜ C·GrowWords .room (now (self .exit) .counts) ≡ C·GrowWords .room (now (self .entry) .counts) ⌝ }
+    {
+        self.values.add_bits(bit as u64, 1);
+    }
+
     // Adds a bit, refused with 3 where the limit would be passed.
     pub fn push(&mut self, bit: bool) -> Result<(), Fault>
         requires { ⌜ SoundIn C·ReadWords V·ReadWords (now self) ⌝ }
@@ -95,6 +120,10 @@ impl<C: GrowWords, V: GrowWords> RankSelect<C, V> {
         ensures others { λ _. ⌜ C·GrowWords .room (now (self .exit) .counts) ≡ C·GrowWords .room (now (self .entry) .counts) ⌝ }
         ensures same { λ r. ⌜ elim r [ Ok _ ↦ Unit {0} | Err _ ↦ now (self .exit) ≡ now (self .entry) ] ⌝ }
     {
+        if self.stays_in_tail() {
+            self.add_to_tail(bit);
+            return Ok(());
+        }
         let n = self.len();
         if !self.has_room(n + 1) {
             return Err(Fault::Full(n));

@@ -25,6 +25,21 @@ add-bits-requires g c κs =
       room = ap (λ (x : ℕ). fits (x + 1) v k) (sym (c .len-n .ensures)) ∙ sym (c .if-not-has-room .ensures tt);
     }
 
+pub returns-then-stays-in-tail : need.returns-then-stays-in-tail
+returns-then-stays-in-tail g c =
+    let s = c .args .self .now in
+    let bs = column-bits (g .V·ReadWords) s in
+    let ok = fits (length bs + 1) (g .V·GrowWords .room (s .values .values)) (g .C·GrowWords .room (s .counts)) in
+    let room = c .if-stays-in-tail .ensures tt refl .1 in
+    record {
+      answer = pushed bs ok room;
+      list = pushed-list bs _ (c .args .bit ∷ []) ok room (c .add-to-tail .ensures .list);
+      sound = c .add-to-tail .ensures .sound;
+      room = c .add-to-tail .ensures .room;
+      others = c .add-to-tail .ensures .others;
+      same = tt;
+    }
+
 pub returns : need.returns
 returns g c =
     let s = c .args .self .now in
