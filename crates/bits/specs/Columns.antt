@@ -40,6 +40,10 @@ rank-answer bs i = cond (leb i (length bs)) (Ok (rank-of bs i)) (Err (Outside i)
 abbrev pub first-answer : List Bool → ℕ → Result (Option ℕ) Fault
 first-answer bs i = cond (leb i (length bs)) (Ok (first-from bs i)) (Err (Outside i))
 
+-- full word b, or the tail's word t behind the last one, or refusal 1
+abbrev pub word-or-tail : List ℕ → ℕ → ℕ → Result ℕ Fault
+word-or-tail ws t b = cond (leb b (length ws)) (Ok (getD ws b t)) (Err (Outside b))
+
 -- whether n bits are within the limit, where there may be `values` full words
 abbrev pub fits-words : ℕ → ℕ → Bool
 fits-words n values = leb n most-bits && leb (n / 64) values

@@ -5,7 +5,7 @@ ghost use mathlib.Core.Path.{_≡_};
 ghost use lib.ListN.{length, getD};
 ghost use Rattle.std.specs.declared.result.Result.the-variants.{Ok, Err};
 ghost use Rattle.bitlaws.specs.Bits.{«rank-of», «select-of», Lagging};
-ghost use Rattle.bits.specs.Columns.{HeldIn, SoundIn, «column-bits», «get-answer», «rank-answer», «first-answer», fits, «push-answer», «push-list»};
+ghost use Rattle.bits.specs.Columns.{HeldIn, SoundIn, «column-bits», «get-answer», «rank-answer», «first-answer», «word-or-tail», fits, «push-answer», «push-list»};
 use crate::bools::Bools;
 use crate::in_word::select_in_word;
 use crate::tail::WORD;
@@ -58,6 +58,17 @@ impl<C: ReadWords, V: ReadWords> RankSelect<C, V> {
         ensures { λ r. ⌜ r ≡ get-answer (column-bits V·ReadWords (now (self .entry))) index ⌝ }
     {
         self.values.get(index)
+    }
+
+    // Full word `block`, or the tail's behind the last one; refused with 1 past it.
+    pub fn word_at(&self, block: usize) -> Result<u64, Fault>
+        requires { ⌜ SoundIn C·ReadWords V·ReadWords (now self) ⌝ }
+        ensures { λ r. ⌜ r ≡ word-or-tail (V·ReadWords .words (now (self .entry) .values .values)) (now (self .entry) .values .word) block ⌝ }
+    {
+        if block > self.values.len() / WORD {
+            return Err(Fault::Outside(block));
+        }
+        Ok(self.values.word(block))
     }
 
     // The first one at or after `pos`, or none; refused with 1 above the length.

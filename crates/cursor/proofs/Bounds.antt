@@ -15,7 +15,9 @@ use Rattle.bitlaws.specs.Bits.{rank-of, select-of, first-from}
 use Rattle.bitlaws.proofs.Words.{rank-under}
 use Rattle.bitlaws.proofs.Selects.{select-place}
 use Rattle.bitlaws.proofs.Firsts.{first-finds}
-use Rattle.bits.specs.Columns.{rank-answer}
+use Rattle.std.specs.declared.option.Option.{Option}
+use Rattle.std.proofs.shelf.Tests.{le-leb, cases-lt}
+use Rattle.bits.specs.Columns.{rank-answer, first-answer}
 use Rattle.bits.proofs.Selecting.{selected-inside}
 
 -- an answer is what stands in the Ok
@@ -33,3 +35,13 @@ pub select-bounds : (bs : List Bool) (r q : ℕ) → Some q ≡ select-of bs r �
 select-bounds bs r q e =
     let s = select-place bs r q (sym e) in
     (omega (arith, s .rank, rank-under bs q), selected-inside bs r q s)
+
+-- a first one is refused only past the end
+pub refused-past : (bs : List Bool) (i : ℕ) (f : Fault) → Err f ≡ first-answer bs i → length bs < i
+refused-past bs i f e = ⊎-elim
+    (λ (lt : length bs < i). lt)
+    (λ (ge : i ≤ length bs). let z : _≡_ {A = ℕ} 0 1 = never (first-from bs i) (e ∙ simp (le-leb i (length bs) ge)) in absurd (omega arith))
+    (cases-lt (length bs) i)
+  where
+    never : (o : Option ℕ) → Err f ≡ Ok o → _≡_ {A = ℕ} 0 1
+    never o e = cc

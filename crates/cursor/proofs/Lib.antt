@@ -1,2 +1,3 @@
 pub mod Bounds
 pub mod Walking
+pub mod Hints

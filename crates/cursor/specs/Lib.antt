@@ -1,2 +1,3 @@
+pub mod Hint
 pub mod Moves
 pub mod Walks

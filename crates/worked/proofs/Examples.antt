@@ -14,8 +14,10 @@ use Rattle.std.proofs.shelf.Tests.{le-leb, lt-ltb, le-ltb, cases-lt}
 use mathlib.Core.Logic.{⊎-elim}
 use Rattle.refusals.specs.declared.fault.Fault.the-variants.{Outside}
 use Rattle.words.specs.Words.{word-answer}
-use Rattle.bitlaws.specs.Bits.{most-bits, low-bits, word-bits, bits-of, ones-in, rank-of, Words64, Held, Counted}
+use Rattle.bitlaws.specs.Bits.{most-bits, low-bits, word-bits, bits-of, ones-in, rank-of, select-of, Words64, Held, Counted}
 use Rattle.bits.specs.Columns.{fits, push-list, group-list}
+use Rattle.std.specs.declared.option.Option.the-variants.{Some}
+use Rattle.cursor.specs.Moves.{Spot, next-one, step, meets, told, left}
 use Rattle.bitlaws.proofs.Holding.{same-words, same-tail, same-count}
 
 -- two tables have room for 4,096 bits
@@ -82,3 +84,33 @@ first-word cs n h = ⊎-elim
     let short : length cs ≤ 0 = omega (arith, counts-long cs n h) in
     simp (le-ltb 0 (length cs) short, le-ltb 0 (n / 1024) none))
     (cases-lt 0 (n / 1024))
+
+-- 130 bits with ones at 63, 64 and 129, as three groups
+unfoldable pub grow : List Bool → ℕ → ℕ → List Bool
+grow bs group n = group-list bs (fits (length bs + n) 64 64) group n
+
+unfoldable pub walk-bits : List Bool
+walk-bits = low-bits 64 9223372036854775808 ++ (low-bits 64 1 ++ low-bits 2 2)
+
+pub walk-grown : (bs : List Bool) → bs ≡ [] → grow (grow (grow bs 9223372036854775808 64) 1 64) 2 2 ≡ walk-bits
+unfolding grow walk-bits low-bits
+walk-grown bs e = ap (λ (x : List Bool). grow (grow (grow x 9223372036854775808 64) 1 64) 2 2) e
+
+-- the moves over them
+module _ (bs : List Bool) (n : ℕ) (s : Spot) (be : bs ≡ walk-bits) (ne : n ≡ 130) where
+  at-bits : {A : Type 0} (F : List Bool → ℕ → Spot → A) (p : Spot) → s ≡ p → F bs n s ≡ F walk-bits 130 p
+  at-bits F p e = ap (λ (x : List Bool). F x n s) be ∙ ap (λ (x : ℕ). F walk-bits x s) ne ∙ ap (F walk-bits 130) e
+
+  pub first-move : s ≡ (0, 0) → (told (meets bs n) (next-one bs s .0) ≡ Ok (Some 63)) × (left (meets bs n) (next-one bs s .1) s ≡ (64, 1))
+  unfolding walk-bits low-bits ones-in select-of
+  first-move e =
+      (at-bits (λ x m p. told (meets x m) (next-one x p .0)) (0, 0) e, at-bits (λ x m p. left (meets x m) (next-one x p .1) p) (0, 0) e)
+
+  pub second-move : s ≡ (64, 1) → (told (meets bs n) (step bs s .0) ≡ Ok (Some true)) × (left (meets bs n) (step bs s .1) s ≡ (65, 2))
+  unfolding walk-bits low-bits ones-in select-of
+  second-move e =
+      (at-bits (λ x m p. told (meets x m) (step x p .0)) (64, 1) e, at-bits (λ x m p. left (meets x m) (step x p .1) p) (64, 1) e)
+
+  pub third-move : s ≡ (65, 2) → told (meets bs n) (next-one bs s .0) ≡ Ok (Some 129)
+  unfolding walk-bits low-bits ones-in select-of
+  third-move e = at-bits (λ x m p. told (meets x m) (next-one x p .0)) (65, 2) e

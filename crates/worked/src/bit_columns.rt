@@ -10,6 +10,7 @@ ghost use Rattle.refusals.specs.declared.fault.Fault.the-variants.{Outside};
 ghost use Rattle.bits.specs.Columns.{SoundIn, «column-bits»};
 ghost use Rattle.words.specs.contracts.table.TableReads.the-impl.{ghosts as tabled};
 use bits::rank_select::RankSelect;
+use cursor::cursor::Cursor;
 use refusals::fault::Fault;
 use words::reading::ReadWords;
 use words::table::Table64;
@@ -91,4 +92,16 @@ pub fn of_group() -> (Result<u64, Fault>, u64, usize)
     let values = column.values();
     let tail = values.tail();
     (values.words().word(0), tail.word, tail.bits)
+}
+
+// next_one, step and next_one again over 130 bits with ones at 63, 64 and 129.
+pub fn of_walk() -> (Result<Option<usize>, Fault>, Result<Option<bool>, Fault>, Result<Option<usize>, Fault>)
+    ensures { λ r. ⌜ r ≡ (Ok (Some 63), Ok (Some true), Ok (Some 129)) ⌝ }
+{
+    let mut column = RankSelect::new(Table64::new(), Table64::new());
+    let _ = column.push_bits(1 << 63, 64);
+    let _ = column.push_bits(1, 64);
+    let _ = column.push_bits(2, 2);
+    let mut cursor = Cursor::new(&column);
+    (cursor.next_one(&column), cursor.step(&column), cursor.next_one(&column))
 }

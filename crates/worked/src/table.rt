@@ -1,3 +1,4 @@
+ghost use mathlib.Core.Bool.{true};
 ghost use mathlib.Core.Path.{_≡_};
 ghost use Rattle.std.specs.declared.option.Option.the-variants.{Some, None};
 ghost use Rattle.std.specs.declared.result.Result.the-variants.{Ok, Err};
@@ -7,6 +8,7 @@ use crate::bit_columns::of_far_rank;
 use crate::bit_columns::of_group;
 use crate::bit_columns::of_none;
 use crate::bit_columns::of_three;
+use crate::bit_columns::of_walk;
 use refusals::fault::Fault;
 
 // What the calls of the examples answered.
@@ -28,6 +30,8 @@ pub struct Table {
     pub far: Option<usize>,
     // 62 zeros, and the group 5 of 3 bits: the first word, and the tail
     pub group: (Result<u64, Fault>, u64, usize),
+    // 130 bits with ones at 63, 64 and 129: next_one, step, next_one
+    pub walk: (Result<Option<usize>, Fault>, Result<Option<bool>, Fault>, Result<Option<usize>, Fault>),
 }
 
 // The examples worked by hand, as one table.
@@ -38,6 +42,7 @@ pub fn worked() -> Table
     ensures chunk { λ r. ⌜ r .chunk ≡ (1, Ok 1024) ⌝ }
     ensures far { λ r. ⌜ r .far ≡ None ⌝ }
     ensures group { λ r. ⌜ r .group ≡ (Ok 4611686018427387904, 1, 1) ⌝ }
+    ensures walk { λ r. ⌜ r .walk ≡ (Ok (Some 63), Ok (Some true), Ok (Some 129)) ⌝ }
 {
     Table {
         none: of_none(),
@@ -46,5 +51,6 @@ pub fn worked() -> Table
         chunk: counts_of_ones(1024),
         far: of_far_rank(),
         group: of_group(),
+        walk: of_walk(),
     }
 }

@@ -1,10 +1,12 @@
-ghost use Prim.Native.Nat.{ℕ, _+_, _≤_, _<_};
+ghost use Prim.Native.Nat.{ℕ, _+_, _-_, _*_, _≤_, _<_};
 ghost use mathlib.Core.Path.{_≡_};
-ghost use lib.ListN.{length};
+ghost use lib.Count.{trailingZeros};
+ghost use lib.ListN.{length, getD};
 ghost use Rattle.std.specs.declared.option.Option.the-variants.{None};
 ghost use Rattle.std.specs.declared.result.Result.the-variants.{Ok, Err};
 ghost use Rattle.bitlaws.specs.Bits.{«first-from»};
 ghost use Rattle.bits.specs.Columns.{SoundIn, «column-bits»};
+ghost use Rattle.cursor.specs.Hint.{above};
 ghost use Rattle.cursor.specs.Moves.{spot, «next-one», step, «to-pos», «to-rank», «behind-one», meets, ahead, told, left};
 use crate::cursor::Cursor;
 use bits::rank_select::RankSelect;
@@ -23,6 +25,9 @@ impl Cursor {
             place: 0,
             count: 0,
             length: column.len(),
+            block: 0,
+            word: 0,
+            rest: 0,
         }
     }
 
@@ -62,7 +67,13 @@ impl Cursor {
         if n != self.length {
             return Err(Fault::Length(n));
         }
-        let found = one_from(column, self.place);
+        let word = word_in(column, self.block);
+        let rest = self.left_of(word);
+        if rest != 0 {
+            *self = self.behind(word, rest);
+            return Ok(Some(self.place - 1));
+        }
+        let found = one_from(column, self.block + 1);
         match found {
             Some(q) => *self = self.at(q + 1, self.count + 1),
             None => *self = self.at(self.place.max(WORD * (n / WORD)), self.count),
@@ -169,6 +180,38 @@ impl Cursor {
             place,
             count,
             length: self.length,
+            block: place / WORD,
+            word: 0,
+            rest: 0,
+        }
+    }
+
+    // What of a word in the cursor's block lies at or after the place.
+    fn left_of(&self, word: u64) -> u64
+        ensures { λ r. ⌜ r ≡ above word (now (self .entry) .place - 64 * now (self .entry) .block) ⌝ }
+    {
+        if word == self.word {
+            return self.rest;
+        }
+        let bit = self.place - WORD * self.block;
+        if bit < WORD { (word >> bit) << bit } else { 0 }
+    }
+
+    // The cursor behind the lowest one of what is left of a word in its block.
+    fn behind(&self, word: u64, rest: u64) -> Self
+        requires rest { ⌜ rest ≡ above word (now self .place - 64 * now self .block) ⌝ }
+        requires some { ⌜ (rest ≡ 0 → ⊥) ⌝ }
+        requires within { ⌜ 64 * now self .block + trailingZeros 64 rest < now self .length ⌝ }
+        ensures at { λ r. ⌜ spot r ≡ (64 * now (self .entry) .block + trailingZeros 64 rest + 1, now (self .entry) .count + 1) ⌝ }
+        ensures length { λ r. ⌜ r .length ≡ now (self .entry) .length ⌝ }
+    {
+        Cursor {
+            place: WORD * self.block + rest.trailing_zeros() as usize + 1,
+            count: self.count + 1,
+            length: self.length,
+            block: self.block,
+            word,
+            rest: rest & (rest - 1),
         }
     }
 
@@ -187,14 +230,26 @@ impl Cursor {
     }
 }
 
-// The first one at or after a place of a column that has it.
-fn one_from<C: ReadWords, V: ReadWords>(column: &RankSelect<C, V>, place: usize) -> Option<usize>
+// The word of a block that the column has.
+fn word_in<C: ReadWords, V: ReadWords>(column: &RankSelect<C, V>, block: usize) -> u64
     requires sound { ⌜ SoundIn C·ReadWords V·ReadWords (now column) ⌝ }
-    requires within { ⌜ place ≤ length (column-bits V·ReadWords (now column)) ⌝ }
-    ensures { λ r. ⌜ r ≡ first-from (column-bits V·ReadWords (now (column .entry))) place ⌝ }
+    requires within { ⌜ block ≤ length (V·ReadWords .words (now column .values .values)) ⌝ }
+    ensures { λ r. ⌜ r ≡ getD (V·ReadWords .words (now (column .entry) .values .values)) block (now (column .entry) .values .word) ⌝ }
 {
-    match column.first_from(place) {
-        Ok(found) => found,
+    match column.word_at(block) {
+        Ok(word) => word,
         Err(_) => unreachable(),
+    }
+}
+
+// The first one in a block or behind it.
+fn one_from<C: ReadWords, V: ReadWords>(column: &RankSelect<C, V>, block: usize) -> Option<usize>
+    requires sound { ⌜ SoundIn C·ReadWords V·ReadWords (now column) ⌝ }
+    requires near { ⌜ block ≤ length (V·ReadWords .words (now column .values .values)) + 1 ⌝ }
+    ensures { λ r. ⌜ r ≡ first-from (column-bits V·ReadWords (now (column .entry))) (64 * block) ⌝ }
+{
+    match column.first_from(WORD * block) {
+        Ok(found) => found,
+        Err(_) => None,
     }
 }
