@@ -3,6 +3,10 @@ ghost use Rattle.bits.specs.Columns.{SoundIn};
 use bits::rank_select::RankSelect;
 use cursor::cursor::Cursor;
 use refusals::fault::Fault;
+use refusals::refusal::FaultRefusal;
+use refusals::refusal::Refusal;
+use store::store::RawStore;
+use words::part::PartReads;
 use words::reading::GrowWords;
 use words::reading::ReadWords;
 
@@ -132,6 +136,46 @@ pub fn stray_walks<C: ReadWords, V: ReadWords>(column: &RankSelect<C, V>) -> Res
         wrong = wrong.saturating_add(1);
     }
     Ok(wrong)
+}
+
+// The number of check's refusal, or 0.
+pub fn check_number(words: &[u64], expected: usize) -> u32 {
+    match RawStore::new(words).check(expected) {
+        Ok(_) => 0,
+        Err(fault) => fault.number(),
+    }
+}
+
+// How many changes of one word of a good store give that refusal.
+pub fn changes_with(number: u32) -> usize {
+    let good = [40, 40, 40, 56, 72, 5, 3, 7, 9];
+    let values = [0, 8, 39, 41, 48, 56, 72, 73, u64::MAX];
+    let mut found = 0usize;
+    for i in 0..9 {
+        for v in values.iter() {
+            let mut words = good;
+            words[i] = *v;
+            if check_number(&words, 4) == number {
+                found = found.saturating_add(1);
+            }
+        }
+    }
+    found
+}
+
+// The number of validate's refusal, or 0.
+pub fn validate_number(words: &[u64], sizes: &[usize]) -> u32 {
+    match RawStore::new(words).validate(sizes) {
+        Ok(_) => 0,
+        Err(fault) => fault.number(),
+    }
+}
+
+// The number of words and of tail bytes of a slice.
+pub fn slice_shape(words: &[u64], expected: usize, k: usize) -> Result<(usize, u8), Fault> {
+    let checked = RawStore::new(words).check(expected)?;
+    let (part, tail) = checked.slice(k);
+    Ok((part.len(), tail))
 }
 
 #[cfg(test)]

@@ -1,10 +1,14 @@
 use crate::astray;
+use crate::changes_with;
+use crate::check_number;
 use crate::fill;
 use crate::misplaced;
 use crate::push_range;
 use crate::push_words;
+use crate::slice_shape;
 use crate::stray_walks;
 use crate::unlike;
+use crate::validate_number;
 use bits::rank_select::RankSelect;
 use cursor::cursor::Cursor;
 use refusals::display::FaultDisplay;
@@ -235,4 +239,34 @@ fn seeks_and_their_refusals() -> Result<(), Fail> {
         (cursor.pos(), cursor.rank(), cursor.total_bits()),
         (200, 64, 200),
     )
+}
+
+// The numbers were counted by another program.
+#[test]
+fn one_word_of_a_store_changed() -> Result<(), Fail> {
+    check_eq(changes_with(0), 45)?;
+    check_eq(changes_with(8), 5)?;
+    check_eq(changes_with(10), 4)?;
+    check_eq(changes_with(11), 8)?;
+    check_eq(changes_with(12), 19)
+}
+
+#[test]
+fn one_word_of_a_store_cut_or_added() -> Result<(), Fail> {
+    check_eq(check_number(&[40, 40, 40, 56, 72, 5, 3, 7], 4), 11)?;
+    check_eq(check_number(&[40, 40, 40, 56, 72, 5, 3, 7, 9, 0], 4), 0)?;
+    check_eq(check_number(&[], 0), 7)
+}
+
+#[test]
+fn slices_of_a_store() -> Result<(), Fail> {
+    let words = [40, 40, 40, 56, 67, 5, 3, 7, 9];
+    check_eq(validate_number(&words, &[8, 8, 8, 8]), 13)?;
+    check_eq(validate_number(&words, &[8, 8, 8, 1]), 0)?;
+    check_eq(validate_number(&words, &[8, 8, 8, 0]), 13)?;
+    check_eq(slice_shape(&words, 4, 0), Ok((0, 0)))?;
+    check_eq(slice_shape(&words, 4, 2), Ok((2, 0)))?;
+    check_eq(slice_shape(&words, 4, 3), Ok((2, 3)))?;
+    check_eq(slice_shape(&words, 4, 4), Ok((0, 0)))?;
+    check_eq(slice_shape(&words, 4, usize::MAX), Ok((0, 0)))
 }

@@ -95,7 +95,11 @@ pub fn of_group() -> (Result<u64, Fault>, u64, usize)
 }
 
 // next_one, step and next_one again over 130 bits with ones at 63, 64 and 129.
-pub fn of_walk() -> (Result<Option<usize>, Fault>, Result<Option<bool>, Fault>, Result<Option<usize>, Fault>)
+pub fn of_walk() -> (
+    Result<Option<usize>, Fault>,
+    Result<Option<bool>, Fault>,
+    Result<Option<usize>, Fault>,
+)
     ensures { λ r. ⌜ r ≡ (Ok (Some 63), Ok (Some true), Ok (Some 129)) ⌝ }
 {
     let mut column = RankSelect::new(Table64::new(), Table64::new());
@@ -103,5 +107,9 @@ pub fn of_walk() -> (Result<Option<usize>, Fault>, Result<Option<bool>, Fault>, 
     let _ = column.push_bits(1, 64);
     let _ = column.push_bits(2, 2);
     let mut cursor = Cursor::new(&column);
-    (cursor.next_one(&column), cursor.step(&column), cursor.next_one(&column))
+    (
+        cursor.next_one(&column),
+        cursor.step(&column),
+        cursor.next_one(&column),
+    )
 }

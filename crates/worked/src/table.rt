@@ -31,7 +31,11 @@ pub struct Table {
     // 62 zeros, and the group 5 of 3 bits: the first word, and the tail
     pub group: (Result<u64, Fault>, u64, usize),
     // 130 bits with ones at 63, 64 and 129: next_one, step, next_one
-    pub walk: (Result<Option<usize>, Fault>, Result<Option<bool>, Fault>, Result<Option<usize>, Fault>),
+    pub walk: (
+        Result<Option<usize>, Fault>,
+        Result<Option<bool>, Fault>,
+        Result<Option<usize>, Fault>,
+    ),
 }
 
 // The examples worked by hand, as one table.
