@@ -1,4 +1,5 @@
 //! Shows, on the crate, what docs/DIFFERENCES.md says of it.
+use columnar::bytes::indexed::{validate_structure, DecodedStore};
 use columnar::sums::rank_select::RankSelect;
 use std::panic::catch_unwind;
 
@@ -59,6 +60,16 @@ fn main() {
         assert!(cursor.seek_to_pos(2));
         assert_eq!(cursor.pos(), 2);
     }
+
+    // a slice past the last, and a store that is too long
+    if !cfg!(debug_assertions) {
+        let words = [8u64];
+        assert_eq!(DecodedStore::new(&words).get(0), (&[][..], 0));
+        assert_eq!(DecodedStore::new(&words).get(usize::MAX), (&words[..], 0));
+    }
+    let mut long = vec![0u64; 268_435_457];
+    long[0] = 8;
+    assert!(validate_structure(&long, 0).is_ok());
 
     // a range's end past the source panics
     assert!(catch_unwind(|| column(&[]).extend_from_self(&column(&[true]), 0..2)).is_err());

@@ -8,7 +8,7 @@ use native.Mathlib.Nat.{add-zero, add-assoc, div-eq-of-lt, lt-of-lt-of-le, mod-e
 use native.Mathlib.Omega.{arith}
 use lib.ListN.{length, getD, take}
 use lib.Dec.{eqb, lit<}
-use lib.Count.{ones, ones-le, under, trailingZeros}
+use lib.Count.{ones, under, trailingZeros}
 use lib.Pow.{pow-mono, split}
 use Rattle.std.specs.declared.option.Option.{Option}
 use Rattle.std.specs.declared.option.Option.the-variants.{Some, None}
@@ -17,7 +17,7 @@ use Rattle.std.proofs.shelf.Lists.{take-all, getD-past, getD-default}
 use Rattle.std.proofs.shelf.Tests.{true≢false, eqb-true, eq-eqb, cases-lt, cases-bool}
 use Rattle.bitlaws.specs.Bits.{low-bits, bits-of, ones-in, rank-of, after, select-of, first-from, Held}
 use Rattle.bitlaws.specs.Laws.{Selected, First-finds, First-lacks}
-use Rattle.bitlaws.proofs.Words.{length-low, length-bits, rank-place, rank-word, rank-none}
+use Rattle.bitlaws.proofs.Words.{ones-zero, length-low, length-bits, rank-place, rank-word, rank-none}
 use Rattle.bitlaws.proofs.Ranks.{rank-step, rank-rises}
 use Rattle.bitlaws.proofs.Selects.{select-some, select-none, select-place, select-few}
 use Rattle.bitlaws.proofs.InWord.{low-bit, low-rank, ones-split, ones-all, selected-in}
@@ -145,9 +145,6 @@ first-lacks bs p = (
       (cases-bool (getD bs j false))) in
       select-none bs (rank-of bs p) (omega (arith, all, ap ones-in (take-all (p + length bs) bs (omega arith))))),
 )
-
-ones-zero : ones 0 ≡ 0
-ones-zero = omega (arith, ones-le 0 0 (lit< tt))
 
 module _ (ws : List ℕ) (t k b w : ℕ) (h : Held ws t k) (le : b ≤ length ws) (is : w ≡ getD ws b t) where
   -- a word with a one, from its lowest bit on

@@ -7,9 +7,9 @@ use native.Mathlib.Nat.{add-zero, mod-eq-of-lt, div-eq-of-lt, lt-of-lt-of-le}
 use native.Mathlib.Omega.{arith}
 use lib.ListN.{length, getD, take}
 use lib.Dec.{eqb, lit<}
-use lib.Bits.{bitOr, block-half, block-odd, or-shifted-r}
+use lib.Bits.{bitAnd, and-mask, bitOr, block-half, block-odd, or-shifted-r}
 use lib.Pow.{high, low, split, pow-mono}
-use Rattle.std.proofs.shelf.Bits.{pow-add, pow-pos, shr-shr, mod-pow-add, shr-below, mod-below, mul-add-lt}
+use Rattle.std.proofs.shelf.Bits.{one-shl, pow-add, pow-pos, shr-shr, mod-pow-add, shr-below, mod-below, mul-add-lt}
 use Rattle.std.proofs.shelf.Lists.{append-assoc, append-nil, getD-append-left, getD-push, getD-past, length-push}
 use Rattle.std.proofs.shelf.Tests.{cases-lt, cases-order}
 use mathlib.Core.Logic.{⊎-elim}
@@ -108,3 +108,7 @@ joined-whole t k a n clean small le =
 pub rest-none : (t k a : ℕ) → t < 2 ^ k → k ≡ 0 → a < 2 ^ 64 → 0 ≡ (a * 2 ^ k + t) / 2 ^ 64
 rest-none t k a clean e fit =
     sym (joined-rest t k a clean (omega arith) ∙ ap (λ (x : ℕ). a / 2 ^ (64 - x)) e ∙ div-eq-of-lt fit)
+
+-- `w & ((1 << n) - 1)`
+pub masked : (w n : ℕ) → n < 64 → bitAnd w ((1 * 2 ^ n) % 2 ^ 64 - 1) ≡ w % 2 ^ n
+masked w n h = ap (λ (x : ℕ). bitAnd w (x - 1)) (one-shl n 64 h) ∙ and-mask w n

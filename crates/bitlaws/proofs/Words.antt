@@ -49,6 +49,10 @@ bit-one zero h = refl
 bit-one (suc zero) h = refl
 bit-one (suc (suc d)) h = omega arith
 
+pub ones-zero : ones 0 ≡ 0
+unfolding ones onesIn
+ones-zero = refl
+
 -- the ones among the k lowest bits
 pub ones-low : (k w : ℕ) → ones-in (low-bits k w) ≡ ones (w % 2 ^ k)
 unfolding low-bits ones-in ones onesIn

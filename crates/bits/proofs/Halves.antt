@@ -6,23 +6,22 @@ use Prim.Native.Nat.{ℕ, zero, suc, _+_, _-_, _*_, _/_, _%_, _≤_, _<_, _^_}
 use native.Mathlib.Nat.{add-zero, div-one, mod-one, add-assoc, div-eq-of-lt, lt-of-lt-of-le}
 use native.Mathlib.Omega.{arith}
 use lib.Dec.{eqb, lit<}
-use lib.Bits.{bitAnd, and-mask}
+use lib.Bits.{bitAnd}
 use lib.Count.{ones, ones-le}
 use lib.Pow.{pow-mono}
-use Rattle.std.proofs.shelf.Bits.{one-shl, shr-shr, mod-below}
+use Rattle.std.proofs.shelf.Bits.{shr-shr, mod-below}
 use Rattle.std.proofs.shelf.Tests.{cases-lt, eq-eqb}
 use Rattle.bitlaws.specs.Bits.{low-bits}
 use Rattle.bitlaws.specs.Laws.{Selected}
+use Rattle.bitlaws.proofs.Words.{ones-zero}
+use Rattle.bitlaws.proofs.Groups.{masked}
 use Rattle.bitlaws.proofs.InWord.{low-bit, low-rank, ones-split}
 use Rattle.bits.specs.declared.in_word.Sought.{Sought}
 use Rattle.bits.specs.Halving.{Moved}
 
 -- `(w & ((1 << h) - 1)).count_ones()`
 pub masked-ones : (w h : ℕ) → h ≤ 32 → ones (bitAnd w ((1 * 2 ^ h) % 2 ^ 64 - 1)) ≡ ones (w % 2 ^ h)
-masked-ones w h le = ap (λ (x : ℕ). ones (bitAnd w (x - 1))) (one-shl h 64 (omega arith)) ∙ ap ones (and-mask w h)
-
-ones-zero : ones 0 ≡ 0
-ones-zero = omega (arith, ones-le 0 0 (lit< tt))
+masked-ones w h le = ap ones (masked w h (omega arith))
 
 pub stays : (s : Sought) → Moved s s
 stays s = record {

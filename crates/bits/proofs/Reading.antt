@@ -9,10 +9,10 @@ use lib.Dec.{eqb, ltb, leb}
 use lib.Bits.{bitAnd, and-mask}
 use lib.Count.{ones}
 use Rattle.std.specs.declared.result.Result.the-variants.{Ok, Err}
-use Rattle.std.proofs.shelf.Bits.{one-shl}
 use Rattle.std.proofs.shelf.Tests.{lt-ltb, le-leb}
 use Rattle.std.specs.declared.option.Option.{Option}
 use Rattle.bitlaws.specs.Bits.{bits-of, rank-of, first-from}
+use Rattle.bitlaws.proofs.Groups.{masked}
 use Rattle.bitlaws.proofs.Words.{length-bits, bit-at, rank-at}
 use Rattle.bits.specs.Columns.{get-answer, rank-answer, first-answer}
 
@@ -26,7 +26,7 @@ module _ (ws : List ℕ) (t k i w : ℕ) (few : k < 64) (is : w ≡ getD ws (i /
 
   pub rank-sum : (n : ℕ) → i ≤ length (bits-of ws t k) → n ≡ rank-of (bits-of ws t k) (64 * (i / 64)) → n + ones (bitAnd w ((1 * 2 ^ (i % 64)) % 2 ^ 64 - 1)) ≡ rank-of (bits-of ws t k) i
   rank-sum n h e =
-      ap₂ (λ (x y : ℕ). x + ones y) e (ap (λ (x : ℕ). bitAnd w (x - 1)) (one-shl (i % 64) 64 (omega arith)) ∙ and-mask w (i % 64) ∙ ap (λ (x : ℕ). x % 2 ^ (i % 64)) is)
+      ap₂ (λ (x y : ℕ). x + ones y) e (masked w (i % 64) (omega arith) ∙ ap (λ (x : ℕ). x % 2 ^ (i % 64)) is)
       ∙ sym (rank-at ws t k i few (omega (arith, length-bits ws t k)))
 
 pub rank-is : (bs : List Bool) (i n : ℕ) → i ≤ length bs → n ≡ rank-of bs i → Ok n ≡ rank-answer bs i

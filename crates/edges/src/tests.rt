@@ -270,3 +270,23 @@ fn slices_of_a_store() -> Result<(), Fail> {
     check_eq(slice_shape(&words, 4, 4), Ok((0, 0)))?;
     check_eq(slice_shape(&words, 4, usize::MAX), Ok((0, 0)))
 }
+
+#[test]
+fn an_altered_column_is_taken_as_it_is() -> Result<(), Fail> {
+    let mut column = RankSelect::new(Table64::new(), Table64::new());
+    column.push_bits(u64::MAX, 64)?;
+    let mut cursor = Cursor::new(&column);
+    check_eq(cursor.next_one(&column), Ok(Some(0)))?;
+    check_eq(cursor.next_one(&column), Ok(Some(1)))?;
+    column.clear();
+    column.push_bits(1 << 5, 64)?;
+    check_eq(cursor.next_one(&column), Ok(Some(5)))?;
+    check_eq((cursor.pos(), cursor.rank()), (6, 3))?;
+    column.clear();
+    column.push_bits(u64::MAX, 64)?;
+    check_eq(cursor.next_one(&column), Ok(Some(6)))?;
+    column.clear();
+    column.push_bits(0, 64)?;
+    check_eq(cursor.next_one(&column), Ok(None))?;
+    check_eq((cursor.pos(), cursor.rank()), (64, 4))
+}

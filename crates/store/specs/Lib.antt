@@ -1,3 +1,4 @@
 pub mod Layout
 pub mod Answers
 pub mod Laws
+pub mod Worked

@@ -22,6 +22,7 @@ impl<'a> Lent<'a> {
     pub fn new(words: &'a mut [u64], used: usize) -> Self
         ensures list { λ r. ⌜ buffer-list (now (r .words)) (r .used) ≡ buffer-list (now (words .entry)) used ⌝ }
         ensures room { λ r. ⌜ buffer-room (length (now (r .words))) ≡ buffer-room (length (now (words .entry))) ⌝ }
+        ensures same { λ r. ⌜ now (r .words) ≡ now (words .entry) ⌝ }
     {
         Lent { words, used }
     }

@@ -1,15 +1,10 @@
 use native.Mathlib.Omega.{arith}
 use mathlib.Core.Path.{_≡_, sym, _∙_, ap, subst}
-use Prim.Native.Nat.{ℕ, _+_, _-_, _%_, _*_, _<_, _^_}
-use lib.Bits.{bitAnd, and-mask}
-use Rattle.std.proofs.shelf.Bits.{one-shl, mod-below, pow-pos}
+use Prim.Native.Nat.{ℕ, _<_, _^_}
+use Rattle.std.proofs.shelf.Bits.{mod-below, pow-pos}
 use Rattle.bitlaws.specs.Bits.{low-bits}
-use Rattle.bitlaws.proofs.Groups.{low-cut}
+use Rattle.bitlaws.proofs.Groups.{low-cut, masked}
 use Rattle.bits.proofs.bools.Bools.bits_at.Needs as need
-
--- `w & ((1 << n) - 1)`
-masked : (w n : ℕ) → n < 64 → bitAnd w ((1 * 2 ^ n) % 2 ^ 64 - 1) ≡ w % 2 ^ n
-masked w n h = ap (λ (x : ℕ). bitAnd w (x - 1)) (one-shl n 64 h) ∙ and-mask w n
 
 pub returns-then-count-lt-WORD : need.returns-then-count-lt-WORD
 returns-then-count-lt-WORD g c =
