@@ -53,6 +53,9 @@ fn main() {
         let mut rs = column(&[]);
         rs.values.push_bits(1, 0);
         assert_eq!((rs.len(), rs.values.tail), (0, [1, 0]));
+        let mut rs = column(&[]);
+        rs.values.push_bits(0, 65);
+        assert_eq!(rs.len(), 65);
         // and seeks backward
         let rs = column(&[true; 10]);
         let mut cursor = rs.cursor();
