@@ -1,5 +1,7 @@
 // The laws of bits, with no machine in them: each is the contract of a small function, and the
 // lemmas below them in proofs/ serve the crates above.
+#![tactic(auto)]
+
 ghost use Rattle.bitlaws.specs.Laws.{RankCounts, RankSteps, RankRises, SelectFinds, SelectLacks, FirstFinds, FirstLacks, OneHolding, FormHolds};
 
 // rank(i) is the number of ones below i.

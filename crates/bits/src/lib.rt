@@ -1,4 +1,6 @@
 // Bit columns over any word stores: `Bools` holds the bits, `RankSelect` counts them too.
+#![tactic(auto)]
+
 pub mod bools;
 mod in_word;
 pub mod rank_select;

@@ -1,4 +1,6 @@
 // What became of the doors of a route: how many were reached, and which were missed.
+#![tactic(auto)]
+
 mod plan;
 mod report;
 

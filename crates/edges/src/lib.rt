@@ -1,4 +1,6 @@
 // Tests of the low crates at their edges; the functions here only fill and compare.
+#![tactic(auto)]
+
 ghost use Rattle.bits.specs.Columns.{SoundIn};
 
 use bits::rank_select::RankSelect;

@@ -1,4 +1,6 @@
 // Wrappers that Rust or C can link, over buffers that the caller owns: for measuring beside the crate.
+#![tactic(auto)]
+
 ghost use Rattle.bits.specs.Columns.{SoundIn};
 
 use bits::rank_select::RankSelect;

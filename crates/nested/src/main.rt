@@ -1,5 +1,7 @@
 // Visits in nested columns: made over tables, lent buffers and words in memory, joined by ranges, with
 // every refusal in words.
+#![tactic(auto)]
+
 use account::{push_each, report, tell};
 use byte_items::lent::LentBytes;
 use columns::column::Payload;

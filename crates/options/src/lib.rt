@@ -1,4 +1,6 @@
 // Columns of options: marks that tell Some from None, and the Some items one after the other.
+#![tactic(auto)]
+
 pub mod fault;
 pub mod growing;
 pub mod kind;

@@ -1,4 +1,6 @@
 // The indexed store: slices of bytes in words, behind a table of their ends.
+#![tactic(auto)]
+
 pub mod laws;
 pub mod store;
 mod table;

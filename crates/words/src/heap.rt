@@ -1,5 +1,5 @@
 ghost use Rattle.std.specs.Prelude.{◌≡◌, ℕ, min, [], length, IfOk};
-ghost use Rattle.std.specs.Vec.{«vec_len», «vec_items», «vec-cap»};
+ghost use Rattle.std.specs.Vec.{«vec_len», «vec_items», vec_capacity};
 ghost use Rattle.words.specs.Words.{most, heap_room, heap_list};
 
 use crate::reading::{GrowWords, MOST, ReadWords};
@@ -17,7 +17,7 @@ impl HeapWords {
     // No words, and room for `limit`, cut to the most there may be.
     pub fn new(heap: Global, limit: usize) -> Result<Self, AllocError>
         ensures list { IfOk result (λ h. heap_list h.words.items h.limit ≡ []) }
-        ensures room { IfOk result (λ h. heap_room (vec-cap h.words) h.limit ≡ min limit most) }
+        ensures room { IfOk result (λ h. heap_room (vec_capacity h.words) h.limit ≡ min limit most) }
     {
         let limit = limit.min(MOST);
         let words = Vec::with_capacity(heap, limit)?;
@@ -54,7 +54,7 @@ impl ReadWords for HeapWords {
 }
 
 impl GrowWords for HeapWords {
-    ghost room = { λ h. heap_room (vec-cap h.words) h.limit };
+    ghost room = { λ h. heap_room (vec_capacity h.words) h.limit };
 
     fn capacity(&self) -> usize {
         self.words.capacity().min(self.most())

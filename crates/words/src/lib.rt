@@ -1,4 +1,6 @@
 // Stores of 64-bit words: what a reading and a growing one mean, and the four there are.
+#![tactic(auto)]
+
 pub mod heap;
 pub mod lent;
 pub mod part;

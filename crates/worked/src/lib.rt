@@ -1,3 +1,5 @@
 // Small examples that a reader can work by hand, made by real calls and proved as one table.
+#![tactic(auto)]
+
 mod bit_columns;
 pub mod table;

@@ -5,8 +5,8 @@ use Rattle.words.proofs.heap.HeapWords.new.Goals as goal
 
 pub returns : goal.returns
 returns c =
-    let got = c.in-ok-words.ensures.made in
+    let got = c.in_ok-words.ensures in
     record {
-      list = ap (λ (x : List ℕ). heap_list x c.min-limit.result) got.0 ∙ take_none (min c.min-limit.result most);
-      room = omega (arith, got, c.min-limit.ensures);
+      list = ap (λ (x : List ℕ). heap_list x c.min-limit.result) got.items ∙ take_none (min c.min-limit.result most);
+      room = omega (arith, got.exact, c.min-limit.ensures);
     }

@@ -24,7 +24,7 @@ returns c =
     let room : length ws < cap = omega (arith, c.at-at.ensures, c.capacity.ensures.value, s.words.ok.0) in
     record {
       answer = cut_put_answer ws m cap c.args.w short room;
-      list = ap (λ (x : List ℕ). take m x) c.push-reserved.ensures.items ∙ cut_put_list ws m cap c.args.w short room;
-      room = ap (λ (x : ℕ). heap_room x s.limit) c.push-reserved.ensures.capacity;
+      list = ap (λ (x : List ℕ). take m x) c.push_reserved.ensures.items ∙ cut_put_list ws m cap c.args.w short room;
+      room = ap (λ (x : ℕ). heap_room x s.limit) c.push_reserved.ensures.capacity;
       same = tt;
     }
