@@ -8,8 +8,8 @@ use Rattle.bits.specs.Halving.{Moved}
 use Rattle.bits.proofs.Halves.{then, placed}
 use Rattle.bits.proofs.in_word.select_in_word.Goals as goal
 
-pub overflow-cast-word : goal.overflow-cast-word
-overflow-cast-word c = omega (arith, ones-le 64 c.args.word c.ranges.word.fits)
+pub overflow_cast-word : goal.overflow_cast-word
+overflow_cast-word c = omega (arith, ones-le 64 c.args.word c.ranges.word.fits)
 
 pub returns-then-k-word : goal.returns-then-k-word
 returns-then-k-word c =

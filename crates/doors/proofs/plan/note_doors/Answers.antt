@@ -19,7 +19,7 @@ loop-at-preserved g c =
     let before = c.loop-at.invariant.1 in
     let text = c.args.text.now in
     let at = c.loop-at.at in
-    elim c.match-read-mark.branch [
+    elim c.match-read_mark.branch [
       | in-Door+in-Ok w ↦
           let told = w.in-Ok.ensures in (
             subst (SoundIn g.C.ReadWords g.V.ReadWords) (sym w.doors-is) told.sound,

@@ -8,13 +8,13 @@ use Rattle.worked.proofs.bit_columns.of_group.Goals as goal
 
 pub returns : goal.returns
 returns c =
-    let s = c.push-bits-2.new.self.values in
+    let s = c.push_bits-2.new.self.values in
     let ws = tabled.words s.values in
     let new = column_bits tabled c.new-column.result in
-    let zeros = c.push-bits.ensures.list in
+    let zeros = c.push_bits.ensures.list in
     let all : bits_of ws s.word s.bits ≡ bits_of (4611686018427387904 ∷ []) 1 1 =
-    c.push-bits-2.ensures.list ∙ ap (λ (x : List Bool). group_list x (fits (length x + 3) 64 64) 5 3) zeros ∙ after_groups new c.new-column.ensures.list in
-    let held = c.push-bits-2.ensures.sound.held in
+    c.push_bits-2.ensures.list ∙ ap (λ (x : List Bool). group_list x (fits (length x + 3) 64 64) 5 3) zeros ∙ after_groups new c.new-column.ensures.list in
+    let held = c.push_bits-2.ensures.sound.held in
     let there = c.values-values.ensures in
     let a : c.word.result ≡ Ok 4611686018427387904 =
     c.word.ensures ∙ ap (λ x. word_answer (tabled.words x) 0) (c.words.ensures ∙ ap (λ x. x.values) there)

@@ -9,17 +9,17 @@ use Rattle.worked.proofs.bit_columns.of_walk.Goals as goal
 pub returns : goal.returns
 unfolding grow walk_bits low_bits
 returns c =
-    let bs = column_bits tabled c.push-bits-3.new.self in
-    let one = c.push-bits.ensures.list in
-    let two = c.push-bits-2.ensures.list ∙ ap (λ (x : List Bool). grow x 1 64) one in
-    let all : bs ≡ walk_bits = c.push-bits-3.ensures.list ∙ ap (λ (x : List Bool). grow x 2 2) two ∙ walk_grown (column_bits tabled c.new-column.result) c.new-column.ensures.list in
+    let bs = column_bits tabled c.push_bits-3.new.self in
+    let one = c.push_bits.ensures.list in
+    let two = c.push_bits-2.ensures.list ∙ ap (λ (x : List Bool). grow x 1 64) one in
+    let all : bs ≡ walk_bits = c.push_bits-3.ensures.list ∙ ap (λ (x : List Bool). grow x 2 2) two ∙ walk_grown (column_bits tabled c.new-column.result) c.new-column.ensures.list in
     let long : c.new-cursor.result.length ≡ 130 = c.new-cursor.ensures.length ∙ ap length all in
     let a = first_move bs c.new-cursor.result.length (spot c.new-cursor.result) all long c.new-cursor.ensures.at in
-    let long-2 = c.next-one.ensures.length ∙ long in
-    let b = second_move bs c.next-one.new.self.length (spot c.next-one.new.self) all long-2 (c.next-one.ensures.moved ∙ a.1) in
+    let long-2 = c.next_one.ensures.length ∙ long in
+    let b = second_move bs c.next_one.new.self.length (spot c.next_one.new.self) all long-2 (c.next_one.ensures.moved ∙ a.1) in
     let long-3 = c.step.ensures.length ∙ long-2 in
     let d = third_move bs c.step.new.self.length (spot c.step.new.self) all long-3 (c.step.ensures.moved ∙ b.1) in
-    let x : c.next-one.result ≡ Ok (Some 63) = c.next-one.ensures.answer ∙ a.0 in
+    let x : c.next_one.result ≡ Ok (Some 63) = c.next_one.ensures.answer ∙ a.0 in
     let y : c.step.result ≡ Ok (Some true) = c.step.ensures.answer ∙ b.0 in
-    let z : c.next-one-2.result ≡ Ok (Some 129) = c.next-one-2.ensures.answer ∙ d in
+    let z : c.next_one-2.result ≡ Ok (Some 129) = c.next_one-2.ensures.answer ∙ d in
     cc

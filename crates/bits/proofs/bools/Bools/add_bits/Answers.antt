@@ -24,8 +24,8 @@ returns-then-tail-count-lt-WORD g c =
       room = refl;
     }
 
-pub put-in-requires : goal.put-in-requires
-put-in-requires g c =
+pub put_in-requires : goal.put_in-requires
+put_in-requires g c =
     let s = c.args.self.now in
     let parts = fits_parts (length (bits_in g.V.ReadWords s) + c.args.count) (g.V.GrowWords.room s.values) c.requires.room in
     omega (arith, parts.1, length_bits (g.V.ReadWords.words s.values) s.word s.bits, c.tail-tail.ensures.bits)
@@ -41,14 +41,14 @@ returns g c =
     let old = c.tail-tail.ensures in
     let next = c.rest-next in
     let whole : (a * 2 ^ c.tail-tail.result.bits + c.tail-tail.result.word) ≡ (a * 2 ^ s.bits + s.word) = ap₂ (λ (x y : ℕ). a * 2 ^ x + y) old.bits old.word in
-    let ws' = g.V.ReadWords.words c.put-in.new.s in
+    let ws' = g.V.ReadWords.words c.put_in.new.s in
     let we : ws' ≡ ws ++ ((a * 2 ^ s.bits + s.word) % 2 ^ 64 ∷ []) =
-    c.put-in.ensures.list ∙ ap (λ (x : ℕ). ws ++ (x ∷ [])) (c.joined.ensures ∙ ap (λ (x : ℕ). x % 2 ^ 64) whole) in
+    c.put_in.ensures.list ∙ ap (λ (x : ℕ). ws ++ (x ∷ [])) (c.joined.ensures ∙ ap (λ (x : ℕ). x % 2 ^ 64) whole) in
     let te = next.ensures.word ∙ ap (λ (x : ℕ). x / 2 ^ 64) whole in
     let ke = next.ensures.bits ∙ ap (λ (x : ℕ). x + n - 64) old.bits in
     let full : 64 ≤ s.bits + n = omega (arith, old.bits) in
     record {
       list = word_list ws s.word s.bits a n c.requires.held c.requires.group.0 size ws' next.result.word next.result.bits we te ke full c.requires.group.1;
       held = word_held ws s.word s.bits a n c.requires.held c.requires.group.0 size ws' next.result.word next.result.bits we te ke full c.requires.group.1;
-      room = c.put-in.ensures.room;
+      room = c.put_in.ensures.room;
     }

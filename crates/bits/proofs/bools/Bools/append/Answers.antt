@@ -2,8 +2,8 @@ use Rattle.std.proofs.Common.{arith}
 use Rattle.bitlaws.proofs.Words.{length_bits}
 use Rattle.bits.proofs.bools.Bools.append.Goals as goal
 
-pub overflow-add-n : goal.overflow-add-n
-overflow-add-n g c =
+pub overflow_add-n : goal.overflow_add-n
+overflow_add-n g c =
     let s = c.args.self.now in
     let o = c.args.source.now in
     omega (
@@ -14,5 +14,5 @@ overflow-add-n g c =
       c.len.ensures,
       length_bits (g.S.ReadWords.words o.values) o.word o.bits,
       c.requires.1.small,
-      c.saturating-sub.ensures,
+      c.saturating_sub.ensures,
     )

@@ -6,11 +6,11 @@ use Rattle.bits.proofs.bools.Bools.bits_at.Goals as goal
 
 pub returns-then-count-lt-WORD : goal.returns-then-count-lt-WORD
 returns-then-count-lt-WORD g c =
-    let w = c.bits-from-bits.result in
+    let w = c.bits_from-bits.result in
     let n = c.args.count in
     let mask = masked w n c.if-count-lt-WORD.true in
     record {
-      list = ap (low_bits n) mask ∙ low_cut n w ∙ c.bits-from-bits.ensures;
+      list = ap (low_bits n) mask ∙ low_cut n w ∙ c.bits_from-bits.ensures;
       clean = subst (λ (x : ℕ). x < 2 ^ n) (sym mask) (mod_below w (2 ^ n) (pow_pos n));
     }
 
@@ -18,6 +18,6 @@ pub returns-else-count-lt-WORD : goal.returns-else-count-lt-WORD
 returns-else-count-lt-WORD g c =
     let all : 64 ≡ c.args.count = omega (arith, c.if-count-lt-WORD.false, c.requires.count.1) in
     record {
-      list = c.bits-from-bits.ensures;
-      clean = subst (λ (x : ℕ). c.bits-from-bits.result < 2 ^ x) all c.bits-from-bits.type-inv;
+      list = c.bits_from-bits.ensures;
+      clean = subst (λ (x : ℕ). c.bits_from-bits.result < 2 ^ x) all c.bits_from-bits.type_inv;
     }

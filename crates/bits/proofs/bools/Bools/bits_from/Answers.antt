@@ -23,4 +23,4 @@ pub returns : goal.returns
 returns g c =
     let s = c.args.self.now in
     let ws = g.V.ReadWords.words s.values in
-    two_word_range ws s.word s.bits c.args.pos c.args.count c.word.result c.requires.held.tailed.few (omega (arith, length_bits ws s.word s.bits, c.requires.within)) c.word.ensures c.word-2.result c.word-2.ensures c.word.type-inv c.requires.count.1 c.if-bit-count-le-WORD.false
+    two_word_range ws s.word s.bits c.args.pos c.args.count c.word.result c.requires.held.tailed.few (omega (arith, length_bits ws s.word s.bits, c.requires.within)) c.word.ensures c.word-2.result c.word-2.ensures c.word.type_inv c.requires.count.1 c.if-bit-count-le-WORD.false

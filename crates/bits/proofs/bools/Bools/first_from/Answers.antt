@@ -12,8 +12,8 @@ word-requires g c =
     let s = c.args.self.now in
     omega (arith, length_bits (g.V.ReadWords.words s.values) s.word s.bits, c.len.ensures, c.requires.tailed.few)
 
-pub overflow-add-result : goal.overflow-add-result
-overflow-add-result g c =
+pub overflow_add-result : goal.overflow_add-result
+overflow_add-result g c =
     let s = c.args.self.now in
     omega (arith, trailing_le 64 (c.word.result / 2 ^ (c.args.pos % 64)), c.len.ensures, length_bits (g.V.ReadWords.words s.values) s.word s.bits, c.requires.small)
 
@@ -22,7 +22,7 @@ returns-then-here-ne0 g c =
     let s = c.args.self.now in
     let ws = g.V.ReadWords.words s.values in
     first_is (bits_in g.V.ReadWords s) c.args.pos _ (omega (arith, c.len.ensures))
-    (sym (first_here ws s.word s.bits c.args.pos c.word.result c.requires (omega (arith, c.len.ensures, length_bits ws s.word s.bits)) c.word.ensures c.word.type-inv c.if-here-ne0.true))
+    (sym (first_here ws s.word s.bits c.args.pos c.word.result c.requires (omega (arith, c.len.ensures, length_bits ws s.word s.bits)) c.word.ensures c.word.type_inv c.if-here-ne0.true))
 
 pub returns : goal.returns
 returns g c =

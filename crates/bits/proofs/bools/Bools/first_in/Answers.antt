@@ -9,7 +9,7 @@ returns-then-word-ne0 g c =
     let s = c.args.self.now in
     let ws = g.V.ReadWords.words s.values in
     sym (ap (select_of (bits_in g.V.ReadWords s)) (sym c.loop-block.invariant)
-    ∙ first_word ws s.word s.bits c.loop-block.block c.word-word.result c.requires (omega (arith, c.len.ensures)) c.word-word.ensures c.word-word.type-inv c.if-word-ne0.true)
+    ∙ first_word ws s.word s.bits c.loop-block.block c.word-word.result c.requires (omega (arith, c.len.ensures)) c.word-word.ensures c.word-word.type_inv c.if-word-ne0.true)
 
 pub loop-block-preserved : goal.loop-block-preserved
 loop-block-preserved g c =

@@ -5,15 +5,15 @@ use Rattle.bitlaws.proofs.Words.{length_bits, rank_word, rank_le}
 use Rattle.bits.specs.Columns.{bits_in}
 use Rattle.bits.proofs.bools.Bools.ones_up_to.Goals as goal
 
-pub overflow-cast-count : goal.overflow-cast-count
-overflow-cast-count g c = omega (arith, ones-le 64 c.word-of.result c.word-of.type-inv)
+pub overflow_cast-count : goal.overflow_cast-count
+overflow_cast-count g c = omega (arith, ones-le 64 c.word_of.result c.word_of.type_inv)
 
-pub overflow-add-count : goal.overflow-add-count
-overflow-add-count g c =
+pub overflow_add-count : goal.overflow_add-count
+overflow_add-count g c =
     let s = c.args.self.now in
     omega (
       arith,
-      ones-le 64 c.word-of.result c.word-of.type-inv,
+      ones-le 64 c.word_of.result c.word_of.type_inv,
       c.loop-pos.invariant,
       rank_le (bits_in g.V.ReadWords s) (64 * c.loop-pos.pos),
       length_bits (g.V.ReadWords.words s.values) s.word s.bits,
@@ -23,6 +23,6 @@ overflow-add-count g c =
 pub loop-pos-preserved : goal.loop-pos-preserved
 loop-pos-preserved g c =
     let s = c.args.self.now in
-    let w = c.word-of in
+    let w = c.word_of in
     let step = rank_word (g.V.ReadWords.words s.values) s.word s.bits c.loop-pos.pos (omega (arith, c.requires.within)) (c.requires.held.fit c.loop-pos.pos) in
     omega (arith, step, c.loop-pos.invariant, ap ones w.ensures)

@@ -4,18 +4,18 @@ use Rattle.bits.specs.Columns.{bits_in, fits_words}
 use Rattle.bits.proofs.Growing.{bit_group, bit_small, pushed, pushed_list}
 use Rattle.bits.proofs.bools.Bools.push.Goals as goal
 
-pub overflow-add-n : goal.overflow-add-n
-overflow-add-n g c =
+pub overflow_add-n : goal.overflow_add-n
+overflow_add-n g c =
     let s = c.args.self.now in
     omega (arith, c.len-n.ensures, length_bits (g.V.ReadWords.words s.values) s.word s.bits, c.requires.small)
 
-pub add-bits-requires : goal.add-bits-requires
-add-bits-requires g c =
+pub add_bits-requires : goal.add_bits-requires
+add_bits-requires g c =
     let cap = g.V.GrowWords.room c.args.self.now.values in
     record {
       held = c.requires;
       group = (bit_small c.args.bit, omega arith);
-      room = ap (λ (x : ℕ). fits_words (x + 1) cap) (sym c.len-n.ensures) ∙ sym c.if-not-has-room.ensures;
+      room = ap (λ (x : ℕ). fits_words (x + 1) cap) (sym c.len-n.ensures) ∙ sym c.if-not-has_room.ensures;
     }
 
 pub returns : goal.returns
@@ -23,11 +23,11 @@ returns g c =
     let s = c.args.self.now in
     let bs = bits_in g.V.ReadWords s in
     let cap = g.V.GrowWords.room s.values in
-    let ok : fits_words (length bs + 1) cap ≡ true = ap (λ (x : ℕ). fits_words (x + 1) cap) (sym c.len-n.ensures) ∙ sym c.if-not-has-room.ensures in
+    let ok : fits_words (length bs + 1) cap ≡ true = ap (λ (x : ℕ). fits_words (x + 1) cap) (sym c.len-n.ensures) ∙ sym c.if-not-has_room.ensures in
     record {
       answer = pushed bs (fits_words (length bs + 1) cap) ok;
-      list = pushed_list bs _ (c.args.bit ∷ []) (fits_words (length bs + 1) cap) ok (c.add-bits.ensures.list ∙ ap (λ (x : List Bool). bs ++ x) (bit_group c.args.bit));
-      held = c.add-bits.ensures.held;
-      room = c.add-bits.ensures.room;
+      list = pushed_list bs _ (c.args.bit ∷ []) (fits_words (length bs + 1) cap) ok (c.add_bits.ensures.list ∙ ap (λ (x : List Bool). bs ++ x) (bit_group c.args.bit));
+      held = c.add_bits.ensures.held;
+      room = c.add_bits.ensures.room;
       same = tt;
     }

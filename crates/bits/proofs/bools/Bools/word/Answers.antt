@@ -10,4 +10,4 @@ returns-then-block-len g c =
 pub returns-else-block-len : goal.returns-else-block-len
 returns-else-block-len g c =
     let s = c.args.self.now in
-    c.word-of.ensures ∙ get_or_default (g.V.ReadWords.words s.values) c.args.block 0 s.word (omega (arith, c.len.ensures))
+    c.word_of.ensures ∙ get_or_default (g.V.ReadWords.words s.values) c.args.block 0 s.word (omega (arith, c.len.ensures))

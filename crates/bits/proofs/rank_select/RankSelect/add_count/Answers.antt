@@ -6,8 +6,8 @@ use Rattle.bitlaws.proofs.Counts.{catch}
 use Rattle.bits.specs.Columns.{column_bits}
 use Rattle.bits.proofs.rank_select.RankSelect.add_count.Goals as goal
 
-pub ones-up-to-count-requires : goal.ones-up-to-count-requires
-ones-up-to-count-requires g c =
+pub ones_up_to-count-requires : goal.ones_up_to-count-requires
+ones_up_to-count-requires g c =
     let s = c.args.self.now in
     let bs = column_bits g.V.ReadWords s in
     let n = c.len-chunk.result in
@@ -16,32 +16,32 @@ ones-up-to-count-requires g c =
     record {
       held = c.requires.held;
       within = (omega arith, omega (arith, long, c.len-chunk.ensures, c.requires.missing, c.requires.held.tailed.few));
-      counted = c.before-chunk-before.ensures ∙ ap (rank_of bs) at;
+      counted = c.before_chunk-before.ensures ∙ ap (rank_of bs) at;
     }
 
-pub put-in-requires : goal.put-in-requires
-put-in-requires g c = omega (arith, c.requires.missing, c.requires.room)
+pub put_in-requires : goal.put_in-requires
+put_in-requires g c = omega (arith, c.requires.missing, c.requires.room)
 
 pub returns : goal.returns
 returns g c =
     let s = c.args.self.now in
     let cs = g.C.ReadWords.words s.counts in
     let bs = column_bits g.V.ReadWords s in
-    let count = c.ones-up-to-count.result in
+    let count = c.ones_up_to-count.result in
     let at : 64 * (16 * c.len-chunk.result + 16) ≡ 1024 * (length cs + 1) = omega (arith, c.len-chunk.ensures) in
     record {
       values = refl;
-      lagging = subst (λ (x : List ℕ). Lagging x bs) (sym c.put-in.ensures.list) (catch cs bs count c.requires.lagging c.requires.missing (c.ones-up-to-count.ensures ∙ ap (rank_of bs) at));
-      more = ap length c.put-in.ensures.list ∙ length_push cs count;
-      others = c.put-in.ensures.room;
+      lagging = subst (λ (x : List ℕ). Lagging x bs) (sym c.put_in.ensures.list) (catch cs bs count c.requires.lagging c.requires.missing (c.ones_up_to-count.ensures ∙ ap (rank_of bs) at));
+      more = ap length c.put_in.ensures.list ∙ length_push cs count;
+      others = c.put_in.ensures.room;
     }
 
-pub overflow-mul-lower : goal.overflow-mul-lower
-overflow-mul-lower g c =
+pub overflow_mul-lower : goal.overflow_mul-lower
+overflow_mul-lower g c =
     let s = c.args.self.now.values in
     omega (arith, c.len-chunk.ensures, c.requires.missing, length_bits (g.V.ReadWords.words s.values) s.word s.bits, c.requires.held.small)
 
-pub overflow-add-lower : goal.overflow-add-lower
-overflow-add-lower g c =
+pub overflow_add-lower : goal.overflow_add-lower
+overflow_add-lower g c =
     let s = c.args.self.now.values in
     omega (arith, c.len-chunk.ensures, c.requires.missing, length_bits (g.V.ReadWords.words s.values) s.word s.bits, c.requires.held.small)

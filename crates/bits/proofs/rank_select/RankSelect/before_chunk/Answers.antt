@@ -9,7 +9,7 @@ returns-then-chunk-gt0 g c =
     let bs = column_bits g.V.ReadWords c.args.self.now in
     let n = c.args.chunk in
     let at : 1024 * (n - 1 + 1) ≡ 1024 * n = omega (arith, c.if-chunk-gt0.true) in
-    c.word-of.ensures ∙ c.requires.counted.each (n - 1) (omega (arith, c.if-chunk-gt0.true, c.requires.within)) ∙ ap (rank_of bs) at
+    c.word_of.ensures ∙ c.requires.counted.each (n - 1) (omega (arith, c.if-chunk-gt0.true, c.requires.within)) ∙ ap (rank_of bs) at
 
 pub returns-else-chunk-gt0 : goal.returns-else-chunk-gt0
 returns-else-chunk-gt0 g c =

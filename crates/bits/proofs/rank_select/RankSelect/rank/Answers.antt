@@ -5,15 +5,15 @@ use Rattle.bits.specs.Columns.{column_bits}
 use Rattle.bits.proofs.Reading.{rank_sum, rank_is}
 use Rattle.bits.proofs.rank_select.RankSelect.rank.Goals as goal
 
-pub ones-up-to-count-requires : goal.ones-up-to-count-requires
-ones-up-to-count-requires g c =
+pub ones_up_to-count-requires : goal.ones_up_to-count-requires
+ones_up_to-count-requires g c =
     let s = c.args.self.now.values in
     let chunk = c.args.index / 64 / 16 in
     let at : 1024 * chunk ≡ 64 * (16 * chunk) = omega arith in
     record {
       held = c.requires.held;
       within = (omega arith, omega (arith, length_bits (g.V.ReadWords.words s.values) s.word s.bits, c.len.ensures, c.requires.held.tailed.few));
-      counted = c.before-chunk.ensures ∙ ap (rank_of (column_bits g.V.ReadWords c.args.self.now)) at;
+      counted = c.before_chunk.ensures ∙ ap (rank_of (column_bits g.V.ReadWords c.args.self.now)) at;
     }
 
 pub word-word-requires : goal.word-word-requires
@@ -21,14 +21,14 @@ word-word-requires g c =
     let s = c.args.self.now.values in
     omega (arith, length_bits (g.V.ReadWords.words s.values) s.word s.bits, c.len.ensures, c.requires.held.tailed.few)
 
-pub overflow-add-result : goal.overflow-add-result
-overflow-add-result g c =
+pub overflow_add-result : goal.overflow_add-result
+overflow_add-result g c =
     let s = c.args.self.now.values in
-    let sum = rank_sum (g.V.ReadWords.words s.values) s.word s.bits c.args.index c.word-word.result c.requires.held.tailed.few c.word-word.ensures c.ones-up-to-count.result (omega (arith, c.len.ensures)) c.ones-up-to-count.ensures in
-    omega (arith, sum, rank_le (column_bits g.V.ReadWords c.args.self.now) c.args.index, c.len.ensures, c.len.type-inv)
+    let sum = rank_sum (g.V.ReadWords.words s.values) s.word s.bits c.args.index c.word-word.result c.requires.held.tailed.few c.word-word.ensures c.ones_up_to-count.result (omega (arith, c.len.ensures)) c.ones_up_to-count.ensures in
+    omega (arith, sum, rank_le (column_bits g.V.ReadWords c.args.self.now) c.args.index, c.len.ensures, c.len.type_inv)
 
 pub returns : goal.returns
 returns g c =
     let s = c.args.self.now.values in
-    let sum = rank_sum (g.V.ReadWords.words s.values) s.word s.bits c.args.index c.word-word.result c.requires.held.tailed.few c.word-word.ensures c.ones-up-to-count.result (omega (arith, c.len.ensures)) c.ones-up-to-count.ensures in
+    let sum = rank_sum (g.V.ReadWords.words s.values) s.word s.bits c.args.index c.word-word.result c.requires.held.tailed.few c.word-word.ensures c.ones_up_to-count.result (omega (arith, c.len.ensures)) c.ones_up_to-count.ensures in
     rank_is (column_bits g.V.ReadWords c.args.self.now) c.args.index _ (omega (arith, c.len.ensures)) sum

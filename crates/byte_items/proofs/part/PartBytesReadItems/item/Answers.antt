@@ -10,8 +10,8 @@ returns-then-i-len c =
     let s = c.args.self.now in
     sym (got_outside _ (part_bytes s.words.words.now s.bytes) c.args.i (omega (arith, c.len.ensures)))
 
-pub word-of-word-requires : goal.word-of-word-requires
-word-of-word-requires c =
+pub word_of-word-requires : goal.word_of-word-requires
+word_of-word-requires c =
     let s = c.args.self.now in
     omega (arith, c.len.ensures, length_part_bytes s.words.words.now s.bytes)
 
@@ -21,5 +21,5 @@ returns c =
     let ws = s.words.words.now in
     let i = c.args.i in
     let h : i < length (part_bytes ws s.bytes) = omega (arith, c.len.ensures) in
-    ap (λ w. Ok (bit_and (w / 2 ^ (8 * (i % 8))) 255)) c.word-of-word.ensures
+    ap (λ w. Ok (bit_and (w / 2 ^ (8 * (i % 8))) 255)) c.word_of-word.ensures
     ∙ ap Ok (part_byte ws s.bytes i h) ∙ sym (got_inside 0 _ (part_bytes ws s.bytes) i h)

@@ -4,14 +4,14 @@ use Rattle.cursor.specs.Hint.{above}
 use Rattle.cursor.proofs.Hints.{behind_facts}
 use Rattle.cursor.proofs.cursor.Cursor.behind.Goals as goal
 
-pub overflow-add-result-3 : goal.overflow-add-result-3
-overflow-add-result-3 c =
+pub overflow_add-result-3 : goal.overflow_add-result-3
+overflow_add-result-3 c =
     let s = c.args.self.now in
     let f = behind_facts c.args.word (s.place - 64 * s.block) c.args.rest c.ranges.word.fits c.requires.rest c.requires.some in
     omega (arith, s.counted, s.begun, f.0, f.1, c.requires.within)
 
-pub invariant-of-result : goal.invariant-of-result
-invariant-of-result c =
+pub invariant_of-result : goal.invariant_of-result
+invariant_of-result c =
     let s = c.args.self.now in
     let z = count_trailing_zeros 64 c.args.rest in
     let f = behind_facts c.args.word (s.place - 64 * s.block) c.args.rest c.ranges.word.fits c.requires.rest c.requires.some in

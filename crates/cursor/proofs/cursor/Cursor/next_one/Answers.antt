@@ -8,8 +8,8 @@ use Rattle.cursor.proofs.Bounds.{first_bounds}
 use Rattle.cursor.proofs.Hints.{some_at, none_at, went}
 use Rattle.cursor.proofs.cursor.Cursor.next_one.Goals as goal
 
-pub word-in-word-requires : goal.word-in-word-requires
-word-in-word-requires g c =
+pub word_in-word-requires : goal.word_in-word-requires
+word_in-word-requires g c =
     let s = c.args.self.now in
     let v = c.args.column.now.values in
     record {
@@ -23,11 +23,11 @@ behind-requires g c =
     let v = c.args.column.now.values in
     let ws = g.V.ReadWords.words v.values in
     let bs = column_bits g.V.ReadWords c.args.column.now in
-    let z = count_trailing_zeros 64 c.left-of-rest.result in
+    let z = count_trailing_zeros 64 c.left_of-rest.result in
     let inside : s.place ≤ 64 * length ws + v.bits = omega (arith, s.within, c.if-n-self.false, c.len-n.ensures, length_bits ws v.word v.bits) in
-    let first = some_at ws v.word v.bits s.place s.block c.word-in-word.result c.left-of-rest.result c.requires.held s.begun s.ended inside c.word-in-word.ensures c.left-of-rest.ensures c.word-in-word.type-inv c.if-rest-ne0.true in
+    let first = some_at ws v.word v.bits s.place s.block c.word_in-word.result c.left_of-rest.result c.requires.held s.begun s.ended inside c.word_in-word.ensures c.left_of-rest.ensures c.word_in-word.type_inv c.if-rest-ne0.true in
     record {
-      rest = c.left-of-rest.ensures;
+      rest = c.left_of-rest.ensures;
       some = c.if-rest-ne0.true;
       within = omega (arith, (first_bounds bs s.place (64 * s.block + z) (sym first)).1, c.if-n-self.false, c.len-n.ensures);
     }
@@ -38,9 +38,9 @@ returns-then-rest-ne0 g c =
     let v = c.args.column.now.values in
     let ws = g.V.ReadWords.words v.values in
     let bs = column_bits g.V.ReadWords c.args.column.now in
-    let z = count_trailing_zeros 64 c.left-of-rest.result in
+    let z = count_trailing_zeros 64 c.left_of-rest.result in
     let inside : s.place ≤ 64 * length ws + v.bits = omega (arith, s.within, c.if-n-self.false, c.len-n.ensures, length_bits ws v.word v.bits) in
-    let first = some_at ws v.word v.bits s.place s.block c.word-in-word.result c.left-of-rest.result c.requires.held s.begun s.ended inside c.word-in-word.ensures c.left-of-rest.ensures c.word-in-word.type-inv c.if-rest-ne0.true in
+    let first = some_at ws v.word v.bits s.place s.block c.word_in-word.result c.left_of-rest.result c.requires.held s.begun s.ended inside c.word_in-word.ensures c.left_of-rest.ensures c.word_in-word.type_inv c.if-rest-ne0.true in
     let told = went bs (spot s) s.length (sym c.len-n.ensures ∙ c.if-n-self.false) (Some (64 * s.block + z)) first in
     let place : c.behind.result.place ≡ 64 * s.block + z + 1 = ap (λ (x : Spot). x.0) c.behind.ensures.at in
     let back : c.behind.result.place - 1 ≡ 64 * s.block + z = omega (arith, place) in
@@ -51,8 +51,8 @@ returns-then-rest-ne0 g c =
       same = tt;
     }
 
-pub one-from-found-requires : goal.one-from-found-requires
-one-from-found-requires g c =
+pub one_from-found-requires : goal.one_from-found-requires
+one_from-found-requires g c =
     let s = c.args.self.now in
     let v = c.args.column.now.values in
     record {
@@ -60,24 +60,24 @@ one-from-found-requires g c =
       near = omega (arith, s.begun, s.within, c.if-n-self.false, c.len-n.ensures, length_bits (g.V.ReadWords.words v.values) v.word v.bits, c.requires.held.tailed.few);
     }
 
-pub overflow-add-q : goal.overflow-add-q
-overflow-add-q g c =
+pub overflow_add-q : goal.overflow_add-q
+overflow_add-q g c =
     let bs = column_bits g.V.ReadWords c.args.column.now in
-    let found = first_bounds bs (64 * (c.args.self.now.block + 1)) c.in-Some.q (sym c.in-Some.is ∙ c.one-from-found.ensures) in
-    omega (arith, found.1, c.len-n.ensures, c.len-n.type-inv)
+    let found = first_bounds bs (64 * (c.args.self.now.block + 1)) c.in-Some.q (sym c.in-Some.is ∙ c.one_from-found.ensures) in
+    omega (arith, found.1, c.len-n.ensures, c.len-n.type_inv)
 
-pub overflow-add-self-in-Some : goal.overflow-add-self-in-Some
-overflow-add-self-in-Some g c =
+pub overflow_add-self-in-Some : goal.overflow_add-self-in-Some
+overflow_add-self-in-Some g c =
     let s = c.args.self.now in
     let bs = column_bits g.V.ReadWords c.args.column.now in
-    let found = first_bounds bs (64 * (s.block + 1)) c.in-Some.q (sym c.in-Some.is ∙ c.one-from-found.ensures) in
-    omega (arith, found.0, found.1, s.counted, s.ended, c.len-n.ensures, c.len-n.type-inv)
+    let found = first_bounds bs (64 * (s.block + 1)) c.in-Some.q (sym c.in-Some.is ∙ c.one_from-found.ensures) in
+    omega (arith, found.0, found.1, s.counted, s.ended, c.len-n.ensures, c.len-n.type_inv)
 
 pub at-requires : goal.at-requires
 at-requires g c =
     let s = c.args.self.now in
     let bs = column_bits g.V.ReadWords c.args.column.now in
-    let found = first_bounds bs (64 * (s.block + 1)) c.in-Some.q (sym c.in-Some.is ∙ c.one-from-found.ensures) in
+    let found = first_bounds bs (64 * (s.block + 1)) c.in-Some.q (sym c.in-Some.is ∙ c.one_from-found.ensures) in
     (omega (arith, found.0, s.counted, s.ended), omega (arith, found.1, c.len-n.ensures, c.if-n-self.false))
 
 pub returns-in-Some : goal.returns-in-Some
@@ -87,8 +87,8 @@ returns-in-Some g c =
     let ws = g.V.ReadWords.words v.values in
     let bs = column_bits g.V.ReadWords c.args.column.now in
     let inside : s.place ≤ 64 * length ws + v.bits = omega (arith, s.within, c.if-n-self.false, c.len-n.ensures, length_bits ws v.word v.bits) in
-    let on = none_at ws v.word v.bits s.place s.block c.word-in-word.result c.left-of-rest.result c.requires.held s.begun s.ended inside c.word-in-word.ensures c.left-of-rest.ensures c.if-rest-ne0.false in
-    let told = went bs (spot s) s.length (sym c.len-n.ensures ∙ c.if-n-self.false) (Some c.in-Some.q) (on ∙ sym c.one-from-found.ensures ∙ c.in-Some.is) in
+    let on = none_at ws v.word v.bits s.place s.block c.word_in-word.result c.left_of-rest.result c.requires.held s.begun s.ended inside c.word_in-word.ensures c.left_of-rest.ensures c.if-rest-ne0.false in
+    let told = went bs (spot s) s.length (sym c.len-n.ensures ∙ c.if-n-self.false) (Some c.in-Some.q) (on ∙ sym c.one_from-found.ensures ∙ c.in-Some.is) in
     record {
       answer = told.0;
       moved = c.at.ensures.at ∙ told.1;
@@ -103,8 +103,8 @@ returns-in-None g c =
     let ws = g.V.ReadWords.words v.values in
     let bs = column_bits g.V.ReadWords c.args.column.now in
     let inside : s.place ≤ 64 * length ws + v.bits = omega (arith, s.within, c.if-n-self.false, c.len-n.ensures, length_bits ws v.word v.bits) in
-    let on = none_at ws v.word v.bits s.place s.block c.word-in-word.result c.left-of-rest.result c.requires.held s.begun s.ended inside c.word-in-word.ensures c.left-of-rest.ensures c.if-rest-ne0.false in
-    let told = went bs (spot s) s.length (sym c.len-n.ensures ∙ c.if-n-self.false) None (on ∙ sym c.one-from-found.ensures ∙ c.in-None.is) in
+    let on = none_at ws v.word v.bits s.place s.block c.word_in-word.result c.left_of-rest.result c.requires.held s.begun s.ended inside c.word_in-word.ensures c.left_of-rest.ensures c.if-rest-ne0.false in
+    let told = went bs (spot s) s.length (sym c.len-n.ensures ∙ c.if-n-self.false) None (on ∙ sym c.one_from-found.ensures ∙ c.in-None.is) in
     let word = ap (λ (x : ℕ). 64 * (x / 64)) c.len-n.ensures in
     record {
       answer = ap Ok c.in-None.is ∙ told.0;

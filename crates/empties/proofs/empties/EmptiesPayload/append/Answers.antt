@@ -2,9 +2,9 @@ use Rattle.std.proofs.Common.{refl, arith}
 use Rattle.empties.specs.Units.{append_room, append_longer}
 use Rattle.empties.proofs.empties.EmptiesPayload.append.Goals as goal
 
-pub overflow-add-self : goal.overflow-add-self
-overflow-add-self c =
-    omega (arith, append_room c.args.self.now.count c.args.source.now.count c.args.start c.args.end c.if-start-end.true c.in-ok-fits-range.ensures)
+pub overflow_add-self : goal.overflow_add-self
+overflow_add-self c =
+    omega (arith, append_room c.args.self.now.count c.args.source.now.count c.args.start c.args.end c.if-start-end.true c.in_ok-fits_range.ensures)
 
 pub returns-then-start-end : goal.returns-then-start-end
 returns-then-start-end c =
@@ -13,7 +13,7 @@ returns-then-start-end c =
     let s = c.args.start in
     let e = c.args.end in
     let h = c.if-start-end.true in
-    let told = c.in-ok-fits-range.ensures in
+    let told = c.in_ok-fits_range.ensures in
     record {
       sound = append_room n m s e h told;
       answer = told;

@@ -5,7 +5,7 @@ use Rattle.empties.proofs.empties.EmptiesPayload.push.Goals as goal
 pub returns : goal.returns
 returns c =
     let n = c.args.self.now.count in
-    let told = c.in-ok-fits.ensures in
+    let told = c.in_ok-fits.ensures in
     record {
       sound = push_room n c.args.x told;
       answer = told;

@@ -3,8 +3,8 @@ use Rattle.columns.specs.Plain.{part}
 use Rattle.columns.proofs.Lists.{length_part, part_more}
 use Rattle.items.proofs.items.Items.add_range.Goals as goal
 
-pub put-in-requires : goal.put-in-requires
-put-in-requires g c =
+pub put_in-requires : goal.put_in-requires
+put_in-requires g c =
     let xs = g.S.ReadItems.list c.args.self.now.store in
     let src = g.S.ReadItems.list c.args.source.now.store in
     let p = part src c.args.start c.loop-i.i in
@@ -16,12 +16,12 @@ loop-i-preserved g c =
     let src = g.S.ReadItems.list c.args.source.now.store in
     let s = c.args.start in
     let i = c.loop-i.i in
-    let x = c.item-of.result in
+    let x = c.item_of.result in
     let l : i < length src = omega (arith, c.requires.range.1) in (
       omega (arith, c.loop-i.invariant.0),
-      c.put-in.ensures.list
+      c.put_in.ensures.list
           ∙ ap (λ l. l ++ (x ∷ [])) c.loop-i.invariant.1
           ∙ append_assoc xs (part src s i) (x ∷ [])
-          ∙ ap (λ l. xs ++ l) (sym (part_more x _ src s i c.loop-i.invariant.0 l c.item-of.ensures)),
-      c.put-in.ensures.room ∙ c.loop-i.invariant.2,
+          ∙ ap (λ l. xs ++ l) (sym (part_more x _ src s i c.loop-i.invariant.0 l c.item_of.ensures)),
+      c.put_in.ensures.room ∙ c.loop-i.invariant.2,
     )

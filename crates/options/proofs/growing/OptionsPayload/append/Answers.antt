@@ -11,8 +11,8 @@ use Rattle.options.specs.Limiting.{limit_asks}
 use Rattle.options.proofs.Ranges.{own_past, granted_end, granted_marks, granted_items, somes_range, marks_range}
 use Rattle.options.proofs.growing.OptionsPayload.append.Goals as goal
 
-pub returns-in-err-fits-range : goal.returns-in-err-fits-range
-returns-in-err-fits-range g c =
+pub returns-in_err-fits_range : goal.returns-in_err-fits_range
+returns-in_err-fits_range g c =
     let s = c.args.self.now in
     let t = c.args.source.now in
     let room = room_in g.C.GrowWords g.V.GrowWords s.indexes in
@@ -20,7 +20,7 @@ returns-in-err-fits-range g c =
     let ask = g.T.Payload.ask s.somes in
     let xs = merge (column_bits g.V.ReadWords s.indexes) (g.T.Column.items s.somes) in
     let ys = merge (column_bits g.V.ReadWords t.indexes) (g.T.Column.items t.somes) in
-    let told = c.in-err-fits-range.ensures in
+    let told = c.in_err-fits_range.ensures in
     let p = err_from_is_err_and c.from-residual.result c.from-residual.ensures.1 in
     let l = list_told own_past (asked room ask) (limited room lim) xs ys c.args.start c.args.end (limit_asks room lim ask (g.met.T.Payload.asks s.somes) xs) in
     record {
@@ -32,26 +32,26 @@ returns-in-err-fits-range g c =
       same = on_refusal c.from-residual.result refl;
     }
 
-pub rank-in-first-requires : goal.rank-in-first-requires
-rank-in-first-requires g c =
+pub rank_in-first-requires : goal.rank_in-first-requires
+rank_in-first-requires g c =
     let s = c.args.self.now in
     let t = c.args.source.now in
     let k = granted_end (room_in g.C.GrowWords g.V.GrowWords s.indexes) (g.T.Payload.limit s.somes) (g.T.Payload.ask s.somes) g.T.Fault.Refusal.past
     (column_bits g.V.ReadWords s.indexes) (column_bits g.V.ReadWords t.indexes) (g.T.Column.items s.somes) (g.T.Column.items t.somes)
-    c.requires.0.many c.requires.1.many c.args.start c.args.end c.if-start-end.false c.in-ok-fits-range.ensures in
+    c.requires.0.many c.requires.1.many c.args.start c.args.end c.if-start-end.false c.in_ok-fits_range.ensures in
     record { sound = c.requires.1.marked; within = omega (arith, k, c.if-start-end.false) }
 
-pub rank-in-last-requires : goal.rank-in-last-requires
-rank-in-last-requires g c =
+pub rank_in-last-requires : goal.rank_in-last-requires
+rank_in-last-requires g c =
     let s = c.args.self.now in
     let t = c.args.source.now in
     let k = granted_end (room_in g.C.GrowWords g.V.GrowWords s.indexes) (g.T.Payload.limit s.somes) (g.T.Payload.ask s.somes) g.T.Fault.Refusal.past
     (column_bits g.V.ReadWords s.indexes) (column_bits g.V.ReadWords t.indexes) (g.T.Column.items s.somes) (g.T.Column.items t.somes)
-    c.requires.0.many c.requires.1.many c.args.start c.args.end c.if-start-end.false c.in-ok-fits-range.ensures in
+    c.requires.0.many c.requires.1.many c.args.start c.args.end c.if-start-end.false c.in_ok-fits_range.ensures in
     record { sound = c.requires.1.marked; within = k }
 
-pub append-items-requires : goal.append-items-requires
-append-items-requires g c =
+pub append_items-requires : goal.append_items-requires
+append_items-requires g c =
     let s = c.args.self.now in
     let t = c.args.source.now in
     let room = room_in g.C.GrowWords g.V.GrowWords s.indexes in
@@ -62,17 +62,17 @@ append-items-requires g c =
     let bt = column_bits g.V.ReadWords t.indexes in
     let ss = g.T.Column.items s.somes in
     let st = g.T.Column.items t.somes in
-    let told = c.in-ok-fits-range.ensures in
+    let told = c.in_ok-fits_range.ensures in
     let h = c.if-start-end.false in
     let k = granted_end room lim ask past bs bt ss st c.requires.0.many c.requires.1.many c.args.start c.args.end h told in
     let e = granted_items room lim ask past bs bt ss st c.requires.0.many c.requires.1.many c.args.start c.args.end h k (g.met.T.Payload.asks s.somes) c.held.ensures told in
     record {
       sound = (c.requires.0.held, c.requires.1.held);
-      granted = ap (λ n. append_answer past ask ss st n c.rank-in-last.result) c.rank-in-first.ensures.value ∙ ap (λ n. append_answer past ask ss st (rank_of bt c.args.start) n) c.rank-in-last.ensures.value ∙ e;
+      granted = ap (λ n. append_answer past ask ss st n c.rank_in-last.result) c.rank_in-first.ensures.value ∙ ap (λ n. append_answer past ask ss st (rank_of bt c.args.start) n) c.rank_in-last.ensures.value ∙ e;
     }
 
-pub append-bits-requires : goal.append-bits-requires
-append-bits-requires g c =
+pub append_bits-requires : goal.append_bits-requires
+append_bits-requires g c =
     let s = c.args.self.now in
     let t = c.args.source.now in
     let room = room_in g.C.GrowWords g.V.GrowWords s.indexes in
@@ -83,7 +83,7 @@ append-bits-requires g c =
     let bt = column_bits g.V.ReadWords t.indexes in
     let ss = g.T.Column.items s.somes in
     let st = g.T.Column.items t.somes in
-    let told = c.in-ok-fits-range.ensures in
+    let told = c.in_ok-fits_range.ensures in
     let h = c.if-start-end.false in
     let k = granted_end room lim ask past bs bt ss st c.requires.0.many c.requires.1.many c.args.start c.args.end h told in
     record {
@@ -109,11 +109,11 @@ returns g c =
     let to = c.args.end in
     let xs = merge bs ss in
     let ys = merge bt st in
-    let told = c.in-ok-fits-range.ensures in
+    let told = c.in_ok-fits_range.ensures in
     let h = c.if-start-end.false in
-    let items = c.append-items.ensures in
-    let marks = c.append-bits.ensures in
-    let more = items.list ∙ ap (λ n. ss ++ part st n c.rank-in-last.result) c.rank-in-first.ensures.value ∙ ap (λ n. ss ++ part st (rank_of bt from) n) c.rank-in-last.ensures.value in
+    let items = c.append_items.ensures in
+    let marks = c.append_bits.ensures in
+    let more = items.list ∙ ap (λ n. ss ++ part st n c.rank_in-last.result) c.rank_in-first.ensures.value ∙ ap (λ n. ss ++ part st (rank_of bt from) n) c.rank_in-last.ensures.value in
     let a = marks.list ∙ sym (marks_range room lim ask past bs bt ss st c.requires.0.many c.requires.1.many from to h) in
     let b = more ∙ sym (somes_range room lim ask past bs bt ss st c.requires.0.many c.requires.1.many from to h) in
     let l = list_told own_past (asked room ask) (limited room lim) xs ys from to (limit_asks room lim ask (g.met.T.Payload.asks s.somes) xs) in

@@ -6,30 +6,30 @@ use Rattle.options.specs.Entries.{somes}
 use Rattle.options.proofs.Pushes.{push_over, push_asked, push_held}
 use Rattle.options.proofs.growing.OptionsPayload.fits.Goals as goal
 
-pub overflow-add-len : goal.overflow-add-len
-overflow-add-len g c = omega (arith, c.len-len.ensures, marks_few g.C.ReadWords g.V.ReadWords c.args.self.now.indexes c.requires.marked)
+pub overflow_add-len : goal.overflow_add-len
+overflow_add-len g c = omega (arith, c.len-len.ensures, marks_few g.C.ReadWords g.V.ReadWords c.args.self.now.indexes c.requires.marked)
 
-pub returns-then-not-has-room : goal.returns-then-not-has-room
-returns-then-not-has-room g c =
+pub returns-then-not-has_room : goal.returns-then-not-has_room
+returns-then-not-has_room g c =
     let s = c.args.self.now in
     push_over (room_in g.C.GrowWords g.V.GrowWords s.indexes) (g.T.Payload.limit s.somes) (g.T.Payload.ask s.somes)
-    (column_bits g.V.ReadWords s.indexes) (g.T.Column.items s.somes) c.requires.many c.len-len.result c.len-len.ensures c.args.x c.if-not-has-room.ensures
+    (column_bits g.V.ReadWords s.indexes) (g.T.Column.items s.somes) c.requires.many c.len-len.result c.len-len.ensures c.args.x c.if-not-has_room.ensures
 
-pub returns-in-err-fits : goal.returns-in-err-fits
-returns-in-err-fits g c =
+pub returns-in_err-fits : goal.returns-in_err-fits
+returns-in_err-fits g c =
     let s = c.args.self.now in
     let p = err_from_is_err_and c.from-residual.result c.from-residual.ensures.1 in
     p.1 ∙ ap Err p.2
     ∙ push_asked (room_in g.C.GrowWords g.V.GrowWords s.indexes) (g.T.Payload.limit s.somes) (g.T.Payload.ask s.somes)
     (column_bits g.V.ReadWords s.indexes) (g.T.Column.items s.somes) c.requires.many c.len-len.result c.len-len.ensures c.args.x
-    (c.in-Some.v ∷ []) (ap (λ x. somes (x ∷ [])) c.in-Some.is) c.if-not-has-room.ensures _ c.in-err-fits.ensures
+    (c.in-Some.v ∷ []) (ap (λ x. somes (x ∷ [])) c.in-Some.is) c.if-not-has_room.ensures _ c.in_err-fits.ensures
 
-pub returns-in-ok-fits : goal.returns-in-ok-fits
-returns-in-ok-fits g c =
+pub returns-in_ok-fits : goal.returns-in_ok-fits
+returns-in_ok-fits g c =
     let s = c.args.self.now in
     push_asked (room_in g.C.GrowWords g.V.GrowWords s.indexes) (g.T.Payload.limit s.somes) (g.T.Payload.ask s.somes)
     (column_bits g.V.ReadWords s.indexes) (g.T.Column.items s.somes) c.requires.many c.len-len.result c.len-len.ensures c.args.x
-    (c.in-Some.v ∷ []) (ap (λ x. somes (x ∷ [])) c.in-Some.is) c.if-not-has-room.ensures (Ok tt) c.in-ok-fits.ensures
+    (c.in-Some.v ∷ []) (ap (λ x. somes (x ∷ [])) c.in-Some.is) c.if-not-has_room.ensures (Ok tt) c.in_ok-fits.ensures
 
 pub returns-in-None : goal.returns-in-None
 returns-in-None g c =
@@ -40,5 +40,5 @@ returns-in-None g c =
     let bs = column_bits g.V.ReadWords s.indexes in
     let ss = g.T.Column.items s.somes in
     let n = c.len-len.result in
-    push_asked room lim ask bs ss c.requires.many n c.len-len.ensures c.args.x [] (ap (λ x. somes (x ∷ [])) c.in-None.is) c.if-not-has-room.ensures (Ok tt)
+    push_asked room lim ask bs ss c.requires.many n c.len-len.ensures c.args.x [] (ap (λ x. somes (x ∷ [])) c.in-None.is) c.if-not-has_room.ensures (Ok tt)
     (push_held room lim ask bs ss c.requires.many n c.len-len.ensures c.args.x (g.met.T.Payload.asks s.somes ss) c.held.ensures)

@@ -7,8 +7,8 @@ use Rattle.columns.proofs.Marked.{marks_few}
 use Rattle.options.proofs.Ranges.{range_past, range_over, range_asked}
 use Rattle.options.proofs.growing.OptionsPayload.fits_range.Goals as goal
 
-pub overflow-add-n : goal.overflow-add-n
-overflow-add-n g c =
+pub overflow_add-n : goal.overflow_add-n
+overflow_add-n g c =
     omega (arith, c.len-n.ensures, c.len.ensures, marks_few g.C.ReadWords g.V.ReadWords c.args.self.now.indexes c.requires.0.marked, marks_few g.C.ReadWords g.V.ReadWords c.args.source.now.indexes c.requires.1.marked)
 
 pub returns-then-end-len : goal.returns-then-end-len
@@ -21,18 +21,18 @@ returns-then-end-len g c =
     (column_bits g.V.ReadWords s.indexes) bt (g.T.Column.items s.somes) (g.T.Column.items t.somes) c.requires.0.many c.requires.1.many
     c.args.start c.args.end c.if-start-end.false over
 
-pub returns-then-not-has-room : goal.returns-then-not-has-room
-returns-then-not-has-room g c =
+pub returns-then-not-has_room : goal.returns-then-not-has_room
+returns-then-not-has_room g c =
     let s = c.args.self.now in
     let t = c.args.source.now in
     let bt = column_bits g.V.ReadWords t.indexes in
     let inside : c.args.end ≤ length bt = omega (arith, c.len.ensures) in
     range_over (room_in g.C.GrowWords g.V.GrowWords s.indexes) (g.T.Payload.limit s.somes) (g.T.Payload.ask s.somes) g.T.Fault.Refusal.past
     (column_bits g.V.ReadWords s.indexes) bt (g.T.Column.items s.somes) (g.T.Column.items t.somes) c.requires.0.many c.requires.1.many
-    c.args.start c.args.end c.if-start-end.false inside c.len-n.result c.len-n.ensures c.if-not-has-room.ensures
+    c.args.start c.args.end c.if-start-end.false inside c.len-n.result c.len-n.ensures c.if-not-has_room.ensures
 
-pub returns-in-err-fits-range : goal.returns-in-err-fits-range
-returns-in-err-fits-range g c =
+pub returns-in_err-fits_range : goal.returns-in_err-fits_range
+returns-in_err-fits_range g c =
     let s = c.args.self.now in
     let t = c.args.source.now in
     let room = room_in g.C.GrowWords g.V.GrowWords s.indexes in
@@ -43,8 +43,8 @@ returns-in-err-fits-range g c =
     let ss = g.T.Column.items s.somes in
     let st = g.T.Column.items t.somes in
     let inside : c.args.end ≤ length bt = omega (arith, c.len.ensures) in
-    let q : true ≡ room (length bs + (c.args.end - c.args.start)) = c.if-not-has-room.ensures ∙ ap (λ n. room (n + (c.args.end - c.args.start))) c.len-n.ensures in
-    let told = c.in-err-fits-range.ensures ∙ ap (λ n. append_answer past ask ss st n c.rank-in-last.result) c.rank-in-first.ensures.value ∙ ap (λ n. append_answer past ask ss st (rank_of bt c.args.start) n) c.rank-in-last.ensures.value in
+    let q : true ≡ room (length bs + (c.args.end - c.args.start)) = c.if-not-has_room.ensures ∙ ap (λ n. room (n + (c.args.end - c.args.start))) c.len-n.ensures in
+    let told = c.in_err-fits_range.ensures ∙ ap (λ n. append_answer past ask ss st n c.rank_in-last.result) c.rank_in-first.ensures.value ∙ ap (λ n. append_answer past ask ss st (rank_of bt c.args.start) n) c.rank_in-last.ensures.value in
     let p = err_from_is_err_and c.from-residual.result c.from-residual.ensures.1 in
     p.1 ∙ ap Err p.2
     ∙ range_asked room (g.T.Payload.limit s.somes) ask past bs bt ss st c.requires.0.many c.requires.1.many c.args.start c.args.end c.if-start-end.false inside
@@ -62,7 +62,7 @@ returns g c =
     let ss = g.T.Column.items s.somes in
     let st = g.T.Column.items t.somes in
     let inside : c.args.end ≤ length bt = omega (arith, c.len.ensures) in
-    let q : true ≡ room (length bs + (c.args.end - c.args.start)) = c.if-not-has-room.ensures ∙ ap (λ n. room (n + (c.args.end - c.args.start))) c.len-n.ensures in
-    let told = c.in-ok-fits-range.ensures ∙ ap (λ n. append_answer past ask ss st n c.rank-in-last.result) c.rank-in-first.ensures.value ∙ ap (λ n. append_answer past ask ss st (rank_of bt c.args.start) n) c.rank-in-last.ensures.value in
+    let q : true ≡ room (length bs + (c.args.end - c.args.start)) = c.if-not-has_room.ensures ∙ ap (λ n. room (n + (c.args.end - c.args.start))) c.len-n.ensures in
+    let told = c.in_ok-fits_range.ensures ∙ ap (λ n. append_answer past ask ss st n c.rank_in-last.result) c.rank_in-first.ensures.value ∙ ap (λ n. append_answer past ask ss st (rank_of bt c.args.start) n) c.rank_in-last.ensures.value in
     range_asked room (g.T.Payload.limit s.somes) ask past bs bt ss st c.requires.0.many c.requires.1.many c.args.start c.args.end c.if-start-end.false inside
     (g.met.T.Payload.asks s.somes) c.held.ensures q (Ok tt) told

@@ -10,5 +10,5 @@ returns g c =
     let bs = column_bits g.V.ReadWords s.indexes in
     let ss = g.T.Column.items s.somes in
     let room = room_in g.C.GrowWords g.V.GrowWords s.indexes in
-    let a : room (length (merge bs ss)) ≡ true = ap room (merge_length bs ss c.requires.many) ∙ c.bits-held.ensures in
+    let a : room (length (merge bs ss)) ≡ true = ap room (merge_length bs ss c.requires.many) ∙ c.bits_held.ensures in
     rw (a, somes_merge bs ss c.requires.many, c.held.ensures)

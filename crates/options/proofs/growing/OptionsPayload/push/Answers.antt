@@ -10,11 +10,11 @@ use Rattle.options.specs.Limiting.{limit_asks}
 use Rattle.options.proofs.Pushes.{push_over, push_asked, push_held, push_merged, push_matched}
 use Rattle.options.proofs.growing.OptionsPayload.push.Goals as goal
 
-pub overflow-add-n : goal.overflow-add-n
-overflow-add-n g c = omega (arith, c.len-n.ensures, marks_few g.C.ReadWords g.V.ReadWords c.args.self.now.indexes c.requires.marked)
+pub overflow_add-n : goal.overflow_add-n
+overflow_add-n g c = omega (arith, c.len-n.ensures, marks_few g.C.ReadWords g.V.ReadWords c.args.self.now.indexes c.requires.marked)
 
-pub returns-then-not-has-room : goal.returns-then-not-has-room
-returns-then-not-has-room g c =
+pub returns-then-not-has_room : goal.returns-then-not-has_room
+returns-then-not-has_room g c =
     let s = c.args.self.now in
     let room = room_in g.C.GrowWords g.V.GrowWords s.indexes in
     let lim = g.T.Payload.limit s.somes in
@@ -23,7 +23,7 @@ returns-then-not-has-room g c =
     let ss = g.T.Column.items s.somes in
     let xs = merge bs ss in
     let ys = xs ++ (c.args.x ∷ []) in
-    let told = push_over room lim ask bs ss c.requires.many c.len-n.result c.len-n.ensures c.args.x c.if-not-has-room.ensures in
+    let told = push_over room lim ask bs ss c.requires.many c.len-n.result c.len-n.ensures c.args.x c.if-not-has_room.ensures in
     record {
       sound = c.requires;
       answer = told;
@@ -33,8 +33,8 @@ returns-then-not-has-room g c =
       same = refl;
     }
 
-pub returns-in-err-push : goal.returns-in-err-push
-returns-in-err-push g c =
+pub returns-in_err-push : goal.returns-in_err-push
+returns-in_err-push g c =
     let s = c.args.self.now in
     let t = c.push.new.self in
     let room = room_in g.C.GrowWords g.V.GrowWords s.indexes in
@@ -45,9 +45,9 @@ returns-in-err-push g c =
     let v = c.in-Some.v in
     let xs = merge bs ss in
     let ys = xs ++ (c.args.x ∷ []) in
-    let inner = c.in-err-push.ensures in
+    let inner = c.in_err-push.ensures in
     let p = err_from_is_err_and c.from-residual.result c.from-residual.ensures.1 in
-    let told = push_asked room lim ask bs ss c.requires.many c.len-n.result c.len-n.ensures c.args.x (v ∷ []) (ap (λ x. somes (x ∷ [])) c.in-Some.is) c.if-not-has-room.ensures _ inner.answer in
+    let told = push_asked room lim ask bs ss c.requires.many c.len-n.result c.len-n.ensures c.args.x (v ∷ []) (ap (λ x. somes (x ∷ [])) c.in-Some.is) c.if-not-has_room.ensures _ inner.answer in
     let same : t ≡ s.somes = inner.same in
     record {
       sound = record { marked = c.requires.marked; held = inner.sound; many = ap (λ q. length (g.T.Column.items q)) same ∙ c.requires.many };
@@ -58,8 +58,8 @@ returns-in-err-push g c =
       same = on_refusal c.from-residual.result (ap (λ q. record { indexes = s.indexes; somes = q }) same);
     }
 
-pub returns-in-ok-push : goal.returns-in-ok-push
-returns-in-ok-push g c =
+pub returns-in_ok-push : goal.returns-in_ok-push
+returns-in_ok-push g c =
     let s = c.args.self.now in
     let room = room_in g.C.GrowWords g.V.GrowWords s.indexes in
     let lim = g.T.Payload.limit s.somes in
@@ -70,13 +70,13 @@ returns-in-ok-push g c =
     let x = c.args.x in
     let xs = merge bs ss in
     let ys = xs ++ (x ∷ []) in
-    let inner = c.in-ok-push.ensures in
-    let marks = c.push-bit.ensures in
+    let inner = c.in_ok-push.ensures in
+    let marks = c.push_bit.ensures in
     let law = g.met.T.Payload.asks s.somes in
     let more : g.T.Column.items c.push.new.self ≡ ss ++ (v ∷ []) = inner.list ∙ sym (grown_by lim ask ss (ss ++ (v ∷ [])) (Ok tt) (law ss (ss ++ (v ∷ []))) inner.answer) in
     let held = ap (λ x. somes (x ∷ [])) c.in-Some.is in
     let mark = ap (λ x. some_marks (x ∷ [])) c.in-Some.is in
-    let told = push_asked room lim ask bs ss c.requires.many c.len-n.result c.len-n.ensures x (v ∷ []) held c.if-not-has-room.ensures (Ok tt) inner.answer in
+    let told = push_asked room lim ask bs ss c.requires.many c.len-n.result c.len-n.ensures x (v ∷ []) held c.if-not-has_room.ensures (Ok tt) inner.answer in
     let e = push_merged room lim ask bs ss c.requires.many c.len-n.result c.len-n.ensures x _ _ (v ∷ []) true marks.list more mark held in
     record {
       sound = record { marked = marks.sound; held = inner.sound; many = push_matched room lim ask bs ss c.requires.many c.len-n.result c.len-n.ensures x _ _ (v ∷ []) true marks.list more mark held };
@@ -98,12 +98,12 @@ returns-in-None g c =
     let x = c.args.x in
     let xs = merge bs ss in
     let ys = xs ++ (x ∷ []) in
-    let marks = c.push-bit-in-None.ensures in
+    let marks = c.push_bit-in-None.ensures in
     let law = g.met.T.Payload.asks s.somes in
     let held = ap (λ x. somes (x ∷ [])) c.in-None.is in
     let mark = ap (λ x. some_marks (x ∷ [])) c.in-None.is in
     let fine = push_held room lim ask bs ss c.requires.many c.len-n.result c.len-n.ensures x (law ss) c.held.ensures in
-    let told = push_asked room lim ask bs ss c.requires.many c.len-n.result c.len-n.ensures x [] held c.if-not-has-room.ensures (Ok tt) fine in
+    let told = push_asked room lim ask bs ss c.requires.many c.len-n.result c.len-n.ensures x [] held c.if-not-has_room.ensures (Ok tt) fine in
     let e = push_merged room lim ask bs ss c.requires.many c.len-n.result c.len-n.ensures x _ _ [] false marks.list (sym (append-nil ss)) mark held in
     record {
       sound = record { marked = marks.sound; held = c.requires.held; many = push_matched room lim ask bs ss c.requires.many c.len-n.result c.len-n.ensures x _ _ [] false marks.list (sym (append-nil ss)) mark held };

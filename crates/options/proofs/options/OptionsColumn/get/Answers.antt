@@ -17,27 +17,27 @@ returns-in-Err g c =
     let p = mark_refused bs c.args.i c.in-Err.f c.in-Err.ensures in
     ap (λ f. Err (Own f)) p.1 ∙ sym (got_outside _ (merge bs ss) c.args.i (omega (arith, p.0, merge_length bs ss c.requires.many)))
 
-pub returns-in-err-x : goal.returns-in-err-x
-returns-in-err-x g c =
+pub returns-in_err-x : goal.returns-in_err-x
+returns-in_err-x g c =
     let s = c.args.self.now in
     let bs = column_bits g.V.ReadWords s.indexes in
     let ss = g.T.Column.items s.somes in
     let i = c.args.i in
     let p = mark_found bs i c.in-Ok.bit c.in-Ok.ensures in
     let l : rank_of bs i < length ss = omega (arith, one_below bs i (p.1 ∙ c.if-some.true), c.requires.many) in
-    let e = c.in-err-x.ensures ∙ ap (λ n. got (g.T.Fault.Refusal.outside n) ss n) c.rank-in.ensures.value in
+    let e = c.in_err-x.ensures ∙ ap (λ n. got (g.T.Fault.Refusal.outside n) ss n) c.rank_in.ensures.value in
     let no : ⊥ = got_there _ _ ss (rank_of bs i) l e in
     elim no [ ]
 
-pub returns-in-ok-x : goal.returns-in-ok-x
-returns-in-ok-x g c =
+pub returns-in_ok-x : goal.returns-in_ok-x
+returns-in_ok-x g c =
     let s = c.args.self.now in
     let bs = column_bits g.V.ReadWords s.indexes in
     let ss = g.T.Column.items s.somes in
     let i = c.args.i in
     let p = mark_found bs i c.in-Ok.bit c.in-Ok.ensures in
-    let e = c.in-ok-x.ensures ∙ ap (λ n. got (g.T.Fault.Refusal.outside n) ss n) c.rank-in.ensures.value in
-    sym (get_some bs ss c.requires.many _ _ i c.in-ok-x.x p.0 (p.1 ∙ c.if-some.true) e)
+    let e = c.in_ok-x.ensures ∙ ap (λ n. got (g.T.Fault.Refusal.outside n) ss n) c.rank_in.ensures.value in
+    sym (get_some bs ss c.requires.many _ _ i c.in_ok-x.x p.0 (p.1 ∙ c.if-some.true) e)
 
 pub returns-else-some : goal.returns-else-some
 returns-else-some g c =

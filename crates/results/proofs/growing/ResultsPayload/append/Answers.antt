@@ -11,8 +11,8 @@ use Rattle.results.specs.Limiting.{limit_asks, limited_same, asked_same}
 use Rattle.results.proofs.Ranges.{own_past, granted_end, granted_marks, granted_oks, granted_errs, marks_range, oks_range, errs_range}
 use Rattle.results.proofs.growing.ResultsPayload.append.Goals as goal
 
-pub returns-in-err-fits-range : goal.returns-in-err-fits-range
-returns-in-err-fits-range g c =
+pub returns-in_err-fits_range : goal.returns-in_err-fits_range
+returns-in_err-fits_range g c =
     let s = c.args.self.now in
     let t = c.args.source.now in
     let room = room_in g.C.GrowWords g.V.GrowWords s.indexes in
@@ -22,7 +22,7 @@ returns-in-err-fits-range g c =
     let ae = g.T.Payload.ask s.errs in
     let xs = merge (column_bits g.V.ReadWords s.indexes) (g.S.Column.items s.oks) (g.T.Column.items s.errs) in
     let ys = merge (column_bits g.V.ReadWords t.indexes) (g.S.Column.items t.oks) (g.T.Column.items t.errs) in
-    let told = c.in-err-fits-range.ensures in
+    let told = c.in_err-fits_range.ensures in
     let p = err_from_is_err_and c.from-residual.result c.from-residual.ensures.1 in
     let l = list_told own_past (asked room ao ae) (limited room lo le) xs ys c.args.start c.args.end (limit_asks room lo le ao ae (g.met.S.Payload.asks s.oks) (g.met.T.Payload.asks s.errs) xs) in
     record {
@@ -34,26 +34,26 @@ returns-in-err-fits-range g c =
       same = on_refusal c.from-residual.result refl;
     }
 
-pub rank-in-first-requires : goal.rank-in-first-requires
-rank-in-first-requires g c =
+pub rank_in-first-requires : goal.rank_in-first-requires
+rank_in-first-requires g c =
     let s = c.args.self.now in
     let t = c.args.source.now in
     let k = granted_end (room_in g.C.GrowWords g.V.GrowWords s.indexes) (g.S.Payload.limit s.oks) (g.T.Payload.limit s.errs) (g.S.Payload.ask s.oks) (g.T.Payload.ask s.errs) g.Fault-as-Refusal-1.past g.Fault-as-Refusal-2.past
     (column_bits g.V.ReadWords s.indexes) (g.S.Column.items s.oks) (g.T.Column.items s.errs) c.requires.0.ones c.requires.0.zeros
-    (column_bits g.V.ReadWords t.indexes) (g.S.Column.items t.oks) (g.T.Column.items t.errs) c.requires.1.ones c.requires.1.zeros c.args.start c.args.end c.if-start-end.false c.in-ok-fits-range.ensures in
+    (column_bits g.V.ReadWords t.indexes) (g.S.Column.items t.oks) (g.T.Column.items t.errs) c.requires.1.ones c.requires.1.zeros c.args.start c.args.end c.if-start-end.false c.in_ok-fits_range.ensures in
     record { sound = c.requires.1.marked; within = omega (arith, k, c.if-start-end.false) }
 
-pub rank-in-last-requires : goal.rank-in-last-requires
-rank-in-last-requires g c =
+pub rank_in-last-requires : goal.rank_in-last-requires
+rank_in-last-requires g c =
     let s = c.args.self.now in
     let t = c.args.source.now in
     let k = granted_end (room_in g.C.GrowWords g.V.GrowWords s.indexes) (g.S.Payload.limit s.oks) (g.T.Payload.limit s.errs) (g.S.Payload.ask s.oks) (g.T.Payload.ask s.errs) g.Fault-as-Refusal-1.past g.Fault-as-Refusal-2.past
     (column_bits g.V.ReadWords s.indexes) (g.S.Column.items s.oks) (g.T.Column.items s.errs) c.requires.0.ones c.requires.0.zeros
-    (column_bits g.V.ReadWords t.indexes) (g.S.Column.items t.oks) (g.T.Column.items t.errs) c.requires.1.ones c.requires.1.zeros c.args.start c.args.end c.if-start-end.false c.in-ok-fits-range.ensures in
+    (column_bits g.V.ReadWords t.indexes) (g.S.Column.items t.oks) (g.T.Column.items t.errs) c.requires.1.ones c.requires.1.zeros c.args.start c.args.end c.if-start-end.false c.in_ok-fits_range.ensures in
     record { sound = c.requires.1.marked; within = k }
 
-pub append-items-requires : goal.append-items-requires
-append-items-requires g c =
+pub append_items-requires : goal.append_items-requires
+append_items-requires g c =
     let s = c.args.self.now in
     let t = c.args.source.now in
     let room = room_in g.C.GrowWords g.V.GrowWords s.indexes in
@@ -69,17 +69,17 @@ append-items-requires g c =
     let bt = column_bits g.V.ReadWords t.indexes in
     let ot = g.S.Column.items t.oks in
     let et = g.T.Column.items t.errs in
-    let told = c.in-ok-fits-range.ensures in
+    let told = c.in_ok-fits_range.ensures in
     let h = c.if-start-end.false in
     let k = granted_end room lo le ao ae po pe bs os es c.requires.0.ones c.requires.0.zeros bt ot et c.requires.1.ones c.requires.1.zeros c.args.start c.args.end h told in
     let e = granted_oks room lo le ao ae po pe bs os es c.requires.0.ones c.requires.0.zeros bt ot et c.requires.1.ones c.requires.1.zeros c.args.start c.args.end h k (g.met.S.Payload.asks s.oks) (g.met.T.Payload.asks s.errs) c.held.ensures c.held-2.ensures told in
     record {
       sound = (c.requires.0.oks, c.requires.1.oks);
-      granted = ap (λ n. append_answer po ao os ot n c.rank-in-last.result) c.rank-in-first.ensures.value ∙ ap (λ n. append_answer po ao os ot (rank_of bt c.args.start) n) c.rank-in-last.ensures.value ∙ e;
+      granted = ap (λ n. append_answer po ao os ot n c.rank_in-last.result) c.rank_in-first.ensures.value ∙ ap (λ n. append_answer po ao os ot (rank_of bt c.args.start) n) c.rank_in-last.ensures.value ∙ e;
     }
 
-pub append-items-requires-2 : goal.append-items-requires-2
-append-items-requires-2 g c =
+pub append_items-requires-2 : goal.append_items-requires-2
+append_items-requires-2 g c =
     let s = c.args.self.now in
     let t = c.args.source.now in
     let room = room_in g.C.GrowWords g.V.GrowWords s.indexes in
@@ -97,17 +97,17 @@ append-items-requires-2 g c =
     let et = g.T.Column.items t.errs in
     let from = c.args.start in
     let to = c.args.end in
-    let told = c.in-ok-fits-range.ensures in
+    let told = c.in_ok-fits_range.ensures in
     let h = c.if-start-end.false in
     let k = granted_end room lo le ao ae po pe bs os es c.requires.0.ones c.requires.0.zeros bt ot et c.requires.1.ones c.requires.1.zeros from to h told in
     let e = granted_errs room lo le ao ae po pe bs os es c.requires.0.ones c.requires.0.zeros bt ot et c.requires.1.ones c.requires.1.zeros from to h k (g.met.S.Payload.asks s.oks) (g.met.T.Payload.asks s.errs) c.held.ensures c.held-2.ensures told in
     record {
       sound = (c.requires.0.errs, c.requires.1.errs);
-      granted = ap (λ n. append_answer pe ae es et (from - n) (to - c.rank-in-last.result)) c.rank-in-first.ensures.value ∙ ap (λ n. append_answer pe ae es et (from - rank_of bt from) (to - n)) c.rank-in-last.ensures.value ∙ e;
+      granted = ap (λ n. append_answer pe ae es et (from - n) (to - c.rank_in-last.result)) c.rank_in-first.ensures.value ∙ ap (λ n. append_answer pe ae es et (from - rank_of bt from) (to - n)) c.rank_in-last.ensures.value ∙ e;
     }
 
-pub append-bits-requires : goal.append-bits-requires
-append-bits-requires g c =
+pub append_bits-requires : goal.append_bits-requires
+append_bits-requires g c =
     let s = c.args.self.now in
     let t = c.args.source.now in
     let room = room_in g.C.GrowWords g.V.GrowWords s.indexes in
@@ -123,7 +123,7 @@ append-bits-requires g c =
     let bt = column_bits g.V.ReadWords t.indexes in
     let ot = g.S.Column.items t.oks in
     let et = g.T.Column.items t.errs in
-    let told = c.in-ok-fits-range.ensures in
+    let told = c.in_ok-fits_range.ensures in
     let h = c.if-start-end.false in
     let k = granted_end room lo le ao ae po pe bs os es c.requires.0.ones c.requires.0.zeros bt ot et c.requires.1.ones c.requires.1.zeros c.args.start c.args.end h told in
     record {
@@ -155,14 +155,14 @@ returns g c =
     let xs = merge bs os es in
     let ys = merge bt ot et in
     let zs = xs ++ part ys from to in
-    let told = c.in-ok-fits-range.ensures in
+    let told = c.in_ok-fits_range.ensures in
     let h = c.if-start-end.false in
     let k = granted_end room lo le ao ae po pe bs os es c.requires.0.ones c.requires.0.zeros bt ot et c.requires.1.ones c.requires.1.zeros from to h told in
-    let oks = c.append-items.ensures in
-    let errs = c.append-items-2.ensures in
-    let marks = c.append-bits.ensures in
-    let more-oks = oks.list ∙ ap (λ n. os ++ part ot n c.rank-in-last.result) c.rank-in-first.ensures.value ∙ ap (λ n. os ++ part ot (rank_of bt from) n) c.rank-in-last.ensures.value in
-    let more-errs = errs.list ∙ ap (λ n. es ++ part et (from - n) (to - c.rank-in-last.result)) c.rank-in-first.ensures.value ∙ ap (λ n. es ++ part et (from - rank_of bt from) (to - n)) c.rank-in-last.ensures.value in
+    let oks = c.append_items.ensures in
+    let errs = c.append_items-2.ensures in
+    let marks = c.append_bits.ensures in
+    let more-oks = oks.list ∙ ap (λ n. os ++ part ot n c.rank_in-last.result) c.rank_in-first.ensures.value ∙ ap (λ n. os ++ part ot (rank_of bt from) n) c.rank_in-last.ensures.value in
+    let more-errs = errs.list ∙ ap (λ n. es ++ part et (from - n) (to - c.rank_in-last.result)) c.rank_in-first.ensures.value ∙ ap (λ n. es ++ part et (from - rank_of bt from) (to - n)) c.rank_in-last.ensures.value in
     let a = marks.list ∙ sym (marks_range room lo le ao ae po pe bs os es c.requires.0.ones c.requires.0.zeros bt ot et c.requires.1.ones c.requires.1.zeros from to h) in
     let b = more-oks ∙ sym (oks_range room lo le ao ae po pe bs os es c.requires.0.ones c.requires.0.zeros bt ot et c.requires.1.ones c.requires.1.zeros from to h) in
     let d = more-errs ∙ sym (errs_range room lo le ao ae po pe bs os es c.requires.0.ones c.requires.0.zeros bt ot et c.requires.1.ones c.requires.1.zeros from to h k) in

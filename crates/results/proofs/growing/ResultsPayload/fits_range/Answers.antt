@@ -17,8 +17,8 @@ returns-then-end-len g c =
     (column_bits g.V.ReadWords s.indexes) (g.S.Column.items s.oks) (g.T.Column.items s.errs) c.requires.0.ones c.requires.0.zeros
     bt (g.S.Column.items t.oks) (g.T.Column.items t.errs) c.requires.1.ones c.requires.1.zeros c.args.start c.args.end c.if-start-end.false over
 
-pub returns-then-not-has-room : goal.returns-then-not-has-room
-returns-then-not-has-room g c =
+pub returns-then-not-has_room : goal.returns-then-not-has_room
+returns-then-not-has_room g c =
     let s = c.args.self.now in
     let t = c.args.source.now in
     let bt = column_bits g.V.ReadWords t.indexes in
@@ -26,10 +26,10 @@ returns-then-not-has-room g c =
     range_over (room_in g.C.GrowWords g.V.GrowWords s.indexes) (g.S.Payload.limit s.oks) (g.T.Payload.limit s.errs) (g.S.Payload.ask s.oks) (g.T.Payload.ask s.errs) g.Fault-as-Refusal-1.past g.Fault-as-Refusal-2.past
     (column_bits g.V.ReadWords s.indexes) (g.S.Column.items s.oks) (g.T.Column.items s.errs) c.requires.0.ones c.requires.0.zeros
     bt (g.S.Column.items t.oks) (g.T.Column.items t.errs) c.requires.1.ones c.requires.1.zeros c.args.start c.args.end c.if-start-end.false inside
-    c.len-n.result c.len-n.ensures c.if-not-has-room.ensures
+    c.len-n.result c.len-n.ensures c.if-not-has_room.ensures
 
-pub returns-in-err-of-oks : goal.returns-in-err-of-oks
-returns-in-err-of-oks g c =
+pub returns-in_err-of_oks : goal.returns-in_err-of_oks
+returns-in_err-of_oks g c =
     let s = c.args.self.now in
     let t = c.args.source.now in
     let room = room_in g.C.GrowWords g.V.GrowWords s.indexes in
@@ -40,13 +40,13 @@ returns-in-err-of-oks g c =
     let os = g.S.Column.items s.oks in
     let ot = g.S.Column.items t.oks in
     let inside : c.args.end ≤ length bt = omega (arith, c.len.ensures) in
-    let q : true ≡ room (length bs + (c.args.end - c.args.start)) = c.if-not-has-room.ensures ∙ ap (λ n. room (n + (c.args.end - c.args.start))) c.len-n.ensures in
-    let told = c.fits-range.ensures ∙ ap (λ n. append_answer po ao os ot n c.rank-in-last.result) c.rank-in-first.ensures.value ∙ ap (λ n. append_answer po ao os ot (rank_of bt c.args.start) n) c.rank-in-last.ensures.value in
+    let q : true ≡ room (length bs + (c.args.end - c.args.start)) = c.if-not-has_room.ensures ∙ ap (λ n. room (n + (c.args.end - c.args.start))) c.len-n.ensures in
+    let told = c.fits_range.ensures ∙ ap (λ n. append_answer po ao os ot n c.rank_in-last.result) c.rank_in-first.ensures.value ∙ ap (λ n. append_answer po ao os ot (rank_of bt c.args.start) n) c.rank_in-last.ensures.value in
     let p = err_from_is_err_and c.from-residual.result c.from-residual.ensures.1 in
     p.1 ∙ ap Err p.2
     ∙ range_by_oks room (g.S.Payload.limit s.oks) (g.T.Payload.limit s.errs) ao (g.T.Payload.ask s.errs) po g.Fault-as-Refusal-2.past
     bs os (g.T.Column.items s.errs) c.requires.0.ones c.requires.0.zeros bt ot (g.T.Column.items t.errs) c.requires.1.ones c.requires.1.zeros c.args.start c.args.end c.if-start-end.false inside
-    (g.met.S.Payload.asks s.oks) (g.met.T.Payload.asks s.errs) c.held.ensures c.held-2.ensures q _ c.fits-range.result c.in-err-of-oks.ensures told
+    (g.met.S.Payload.asks s.oks) (g.met.T.Payload.asks s.errs) c.held.ensures c.held-2.ensures q _ c.fits_range.result c.in_err-of_oks.ensures told
 
 pub returns : goal.returns
 returns g c =
@@ -66,8 +66,8 @@ returns g c =
     let from = c.args.start in
     let to = c.args.end in
     let inside : to ≤ length bt = omega (arith, c.len.ensures) in
-    let q : true ≡ room (length bs + (to - from)) = c.if-not-has-room.ensures ∙ ap (λ n. room (n + (to - from))) c.len-n.ensures in
-    let fine = sym (ok_side tt c.fits-range.result c.in-ok-of-oks.ensures) ∙ c.fits-range.ensures ∙ ap (λ n. append_answer po ao os ot n c.rank-in-last.result) c.rank-in-first.ensures.value ∙ ap (λ n. append_answer po ao os ot (rank_of bt from) n) c.rank-in-last.ensures.value in
-    let told = c.fits-range-2.ensures ∙ ap (λ n. append_answer pe ae es et (from - n) (to - c.rank-in-last.result)) c.rank-in-first.ensures.value ∙ ap (λ n. append_answer pe ae es et (from - rank_of bt from) (to - n)) c.rank-in-last.ensures.value in
+    let q : true ≡ room (length bs + (to - from)) = c.if-not-has_room.ensures ∙ ap (λ n. room (n + (to - from))) c.len-n.ensures in
+    let fine = sym (ok_side tt c.fits_range.result c.in_ok-of_oks.ensures) ∙ c.fits_range.ensures ∙ ap (λ n. append_answer po ao os ot n c.rank_in-last.result) c.rank_in-first.ensures.value ∙ ap (λ n. append_answer po ao os ot (rank_of bt from) n) c.rank_in-last.ensures.value in
+    let told = c.fits_range-2.ensures ∙ ap (λ n. append_answer pe ae es et (from - n) (to - c.rank_in-last.result)) c.rank_in-first.ensures.value ∙ ap (λ n. append_answer pe ae es et (from - rank_of bt from) (to - n)) c.rank_in-last.ensures.value in
     range_by_errs room (g.S.Payload.limit s.oks) (g.T.Payload.limit s.errs) ao ae po pe bs os es c.requires.0.ones c.requires.0.zeros bt ot et c.requires.1.ones c.requires.1.zeros from to c.if-start-end.false inside
-    (g.met.S.Payload.asks s.oks) (g.met.T.Payload.asks s.errs) c.held.ensures c.held-2.ensures q fine c.of-errs.result c.fits-range-2.result c.of-errs.ensures told
+    (g.met.S.Payload.asks s.oks) (g.met.T.Payload.asks s.errs) c.held.ensures c.held-2.ensures q fine c.of_errs.result c.fits_range-2.result c.of_errs.ensures told

@@ -11,5 +11,5 @@ returns g c =
     let os = g.S.Column.items s.oks in
     let es = g.T.Column.items s.errs in
     let room = room_in g.C.GrowWords g.V.GrowWords s.indexes in
-    let a : room (length (merge bs os es)) ≡ true = ap room (merge_length bs os es c.requires.ones c.requires.zeros) ∙ c.bits-held.ensures in
+    let a : room (length (merge bs os es)) ≡ true = ap room (merge_length bs os es c.requires.ones c.requires.zeros) ∙ c.bits_held.ensures in
     rw (a, oks_merge bs os es c.requires.ones c.requires.zeros, errs_merge bs os es c.requires.ones c.requires.zeros, c.held.ensures, c.held-2.ensures)

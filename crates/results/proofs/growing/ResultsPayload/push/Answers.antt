@@ -9,8 +9,8 @@ use Rattle.results.specs.Limiting.{limit_asks, ok_side, err_side, ok_refused, er
 use Rattle.results.proofs.Pushes.{push_over, push_by_oks, push_by_errs, held_answer, push_merged, push_ones, push_zeros}
 use Rattle.results.proofs.growing.ResultsPayload.push.Goals as goal
 
-pub returns-then-not-has-room : goal.returns-then-not-has-room
-returns-then-not-has-room g c =
+pub returns-then-not-has_room : goal.returns-then-not-has_room
+returns-then-not-has_room g c =
     let s = c.args.self.now in
     let room = room_in g.C.GrowWords g.V.GrowWords s.indexes in
     let lo = g.S.Payload.limit s.oks in
@@ -22,7 +22,7 @@ returns-then-not-has-room g c =
     let es = g.T.Column.items s.errs in
     let xs = merge bs os es in
     let ys = xs ++ (c.args.x ∷ []) in
-    let told = push_over room lo le ao ae bs os es c.requires.ones c.requires.zeros c.len-n.result c.len-n.ensures c.args.x c.if-not-has-room.ensures in
+    let told = push_over room lo le ao ae bs os es c.requires.ones c.requires.zeros c.len-n.result c.len-n.ensures c.args.x c.if-not-has_room.ensures in
     record {
       sound = c.requires;
       answer = told;
@@ -32,8 +32,8 @@ returns-then-not-has-room g c =
       same = refl;
     }
 
-pub returns-in-err-of-oks : goal.returns-in-err-of-oks
-returns-in-err-of-oks g c =
+pub returns-in_err-of_oks : goal.returns-in_err-of_oks
+returns-in_err-of_oks g c =
     let s = c.args.self.now in
     let room = room_in g.C.GrowWords g.V.GrowWords s.indexes in
     let lo = g.S.Payload.limit s.oks in
@@ -47,10 +47,10 @@ returns-in-err-of-oks g c =
     let xs = merge bs os es in
     let ys = xs ++ (x ∷ []) in
     let inner = c.push.ensures in
-    let side = c.in-err-of-oks.ensures in
+    let side = c.in_err-of_oks.ensures in
     let p = err_from_is_err_and c.from-residual.result c.from-residual.ensures.1 in
     let fine = held_answer le ae es (g.met.T.Payload.asks s.errs es) c.held.ensures in
-    let told = push_by_oks room lo le ao ae bs os es c.requires.ones c.requires.zeros c.len-n.result c.len-n.ensures x (c.in-Ok.v ∷ []) [] (ap (λ x. oks (x ∷ [])) c.in-Ok.is) (ap (λ x. errs (x ∷ [])) c.in-Ok.is) c.if-not-has-room.ensures fine _ c.push.result side inner.answer in
+    let told = push_by_oks room lo le ao ae bs os es c.requires.ones c.requires.zeros c.len-n.result c.len-n.ensures x (c.in-Ok.v ∷ []) [] (ap (λ x. oks (x ∷ [])) c.in-Ok.is) (ap (λ x. errs (x ∷ [])) c.in-Ok.is) c.if-not-has_room.ensures fine _ c.push.result side inner.answer in
     let same : c.push.new.self ≡ s.oks = ok_refused (c.push.new.self ≡ s.oks) _ c.push.result side inner.same in
     record {
       sound = record { marked = c.requires.marked; oks = inner.sound; errs = c.requires.errs; ones = ap (λ q. length (g.S.Column.items q)) same ∙ c.requires.ones; zeros = c.requires.zeros };
@@ -61,8 +61,8 @@ returns-in-err-of-oks g c =
       same = on_refusal c.from-residual.result (ap (λ q. record { indexes = s.indexes; oks = q; errs = s.errs }) same);
     }
 
-pub returns-in-err-of-errs : goal.returns-in-err-of-errs
-returns-in-err-of-errs g c =
+pub returns-in_err-of_errs : goal.returns-in_err-of_errs
+returns-in_err-of_errs g c =
     let s = c.args.self.now in
     let room = room_in g.C.GrowWords g.V.GrowWords s.indexes in
     let lo = g.S.Payload.limit s.oks in
@@ -76,10 +76,10 @@ returns-in-err-of-errs g c =
     let xs = merge bs os es in
     let ys = xs ++ (x ∷ []) in
     let inner = c.push-in-Err.ensures in
-    let side = c.in-err-of-errs.ensures in
-    let p = err_from_is_err_and c.from-residual-in-err-of-errs.result c.from-residual-in-err-of-errs.ensures.1 in
+    let side = c.in_err-of_errs.ensures in
+    let p = err_from_is_err_and c.from-residual-in_err-of_errs.result c.from-residual-in_err-of_errs.ensures.1 in
     let fine = held_answer lo ao os (g.met.S.Payload.asks s.oks os) c.held-in-Err.ensures in
-    let told = push_by_errs room lo le ao ae bs os es c.requires.ones c.requires.zeros c.len-n.result c.len-n.ensures x [] (c.in-Err.w ∷ []) (ap (λ x. oks (x ∷ [])) c.in-Err.is) (ap (λ x. errs (x ∷ [])) c.in-Err.is) c.if-not-has-room.ensures fine _ c.push-in-Err.result side inner.answer in
+    let told = push_by_errs room lo le ao ae bs os es c.requires.ones c.requires.zeros c.len-n.result c.len-n.ensures x [] (c.in-Err.w ∷ []) (ap (λ x. oks (x ∷ [])) c.in-Err.is) (ap (λ x. errs (x ∷ [])) c.in-Err.is) c.if-not-has_room.ensures fine _ c.push-in-Err.result side inner.answer in
     let same : c.push-in-Err.new.self ≡ s.errs = err_refused (c.push-in-Err.new.self ≡ s.errs) _ c.push-in-Err.result side inner.same in
     record {
       sound = record { marked = c.requires.marked; oks = c.requires.oks; errs = inner.sound; ones = c.requires.ones; zeros = ap (λ q. ones_among bs + length (g.T.Column.items q)) same ∙ c.requires.zeros };
@@ -87,11 +87,11 @@ returns-in-err-of-errs g c =
       list = ap (λ q. merge bs os (g.T.Column.items q)) same ∙ grown_by (limited room lo le) (asked room ao ae) xs ys _ (limit_asks room lo le ao ae (g.met.S.Payload.asks s.oks) (g.met.T.Payload.asks s.errs) xs ys) told;
       limit = ap (limited room lo) inner.limit;
       ask = ap (asked room ao) inner.ask;
-      same = on_refusal c.from-residual-in-err-of-errs.result (ap (λ q. record { indexes = s.indexes; oks = s.oks; errs = q }) same);
+      same = on_refusal c.from-residual-in_err-of_errs.result (ap (λ q. record { indexes = s.indexes; oks = s.oks; errs = q }) same);
     }
 
-pub returns-in-ok-of-oks : goal.returns-in-ok-of-oks
-returns-in-ok-of-oks g c =
+pub returns-in_ok-of_oks : goal.returns-in_ok-of_oks
+returns-in_ok-of_oks g c =
     let s = c.args.self.now in
     let room = room_in g.C.GrowWords g.V.GrowWords s.indexes in
     let lo = g.S.Payload.limit s.oks in
@@ -106,8 +106,8 @@ returns-in-ok-of-oks g c =
     let xs = merge bs os es in
     let ys = xs ++ (x ∷ []) in
     let inner = c.push.ensures in
-    let marks = c.push-bit.ensures in
-    let side = c.in-ok-of-oks.ensures in
+    let marks = c.push_bit.ensures in
+    let side = c.in_ok-of_oks.ensures in
     let got = sym (ok_side tt c.push.result side) ∙ inner.answer in
     let law = g.met.S.Payload.asks s.oks in
     let more : g.S.Column.items c.push.new.self ≡ os ++ (v ∷ []) = inner.list ∙ sym (grown_by lo ao os (os ++ (v ∷ [])) (Ok tt) (law os (os ++ (v ∷ []))) got) in
@@ -115,7 +115,7 @@ returns-in-ok-of-oks g c =
     let in-errs = ap (λ x. errs (x ∷ [])) c.in-Ok.is in
     let mark = ap (λ x. ok_marks (x ∷ [])) c.in-Ok.is in
     let fine = held_answer le ae es (g.met.T.Payload.asks s.errs es) c.held.ensures in
-    let told = push_by_oks room lo le ao ae bs os es c.requires.ones c.requires.zeros c.len-n.result c.len-n.ensures x (v ∷ []) [] in-oks in-errs c.if-not-has-room.ensures fine (Ok tt) c.push.result side inner.answer in
+    let told = push_by_oks room lo le ao ae bs os es c.requires.ones c.requires.zeros c.len-n.result c.len-n.ensures x (v ∷ []) [] in-oks in-errs c.if-not-has_room.ensures fine (Ok tt) c.push.result side inner.answer in
     let e = push_merged room lo le ao ae bs os es c.requires.ones c.requires.zeros c.len-n.result c.len-n.ensures x (v ∷ []) [] in-oks in-errs _ _ _ true marks.list more (sym (append-nil es)) mark in
     record {
       sound = record {
@@ -132,8 +132,8 @@ returns-in-ok-of-oks g c =
       same = tt;
     }
 
-pub returns-in-ok-of-errs : goal.returns-in-ok-of-errs
-returns-in-ok-of-errs g c =
+pub returns-in_ok-of_errs : goal.returns-in_ok-of_errs
+returns-in_ok-of_errs g c =
     let s = c.args.self.now in
     let room = room_in g.C.GrowWords g.V.GrowWords s.indexes in
     let lo = g.S.Payload.limit s.oks in
@@ -148,8 +148,8 @@ returns-in-ok-of-errs g c =
     let xs = merge bs os es in
     let ys = xs ++ (x ∷ []) in
     let inner = c.push-in-Err.ensures in
-    let marks = c.push-bit-in-Err.ensures in
-    let side = c.in-ok-of-errs.ensures in
+    let marks = c.push_bit-in-Err.ensures in
+    let side = c.in_ok-of_errs.ensures in
     let got = sym (err_side tt c.push-in-Err.result side) ∙ inner.answer in
     let law = g.met.T.Payload.asks s.errs in
     let more : g.T.Column.items c.push-in-Err.new.self ≡ es ++ (w ∷ []) = inner.list ∙ sym (grown_by le ae es (es ++ (w ∷ [])) (Ok tt) (law es (es ++ (w ∷ []))) got) in
@@ -157,7 +157,7 @@ returns-in-ok-of-errs g c =
     let in-errs = ap (λ x. errs (x ∷ [])) c.in-Err.is in
     let mark = ap (λ x. ok_marks (x ∷ [])) c.in-Err.is in
     let fine = held_answer lo ao os (g.met.S.Payload.asks s.oks os) c.held-in-Err.ensures in
-    let told = push_by_errs room lo le ao ae bs os es c.requires.ones c.requires.zeros c.len-n.result c.len-n.ensures x [] (w ∷ []) in-oks in-errs c.if-not-has-room.ensures fine (Ok tt) c.push-in-Err.result side inner.answer in
+    let told = push_by_errs room lo le ao ae bs os es c.requires.ones c.requires.zeros c.len-n.result c.len-n.ensures x [] (w ∷ []) in-oks in-errs c.if-not-has_room.ensures fine (Ok tt) c.push-in-Err.result side inner.answer in
     let e = push_merged room lo le ao ae bs os es c.requires.ones c.requires.zeros c.len-n.result c.len-n.ensures x [] (w ∷ []) in-oks in-errs _ _ _ false marks.list (sym (append-nil os)) more mark in
     record {
       sound = record {
