@@ -16,4 +16,10 @@ invariant_of-result c =
     let z = count_trailing_zeros 64 c.args.rest in
     let f = behind_facts c.args.word (s.place - 64 * s.block) c.args.rest c.ranges.word.fits c.requires.rest c.requires.some in
     let bit : z + 1 ≡ 64 * s.block + z + 1 - 64 * s.block = omega arith in
-    (omega (arith, s.counted, s.begun, f.0), (omega (arith, c.requires.within), (omega arith, (omega (arith, f.1), (f.2 ∙ ap (above c.args.word) bit, tt)))))
+    record {
+      counted = omega (arith, s.counted, s.begun, f.0);
+      within = omega (arith, c.requires.within);
+      begun = omega arith;
+      ended = omega (arith, f.1);
+      hint = f.2 ∙ ap (above c.args.word) bit;
+    }
