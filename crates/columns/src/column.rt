@@ -41,25 +41,25 @@ pub trait Payload: Column {
 
     // The list is within the limit: a fact for proofs, at no cost when it runs.
     fn held(&self)
-        requires { sound self.now }
-        ensures { limit self.now (items self.now) ≡ true };
+        requires { Self.sound self.now }
+        ensures { limit self.now (Self.items self.now) ≡ true };
 
     // Whether one more item keeps the limit: what `push` would answer.
     fn fits(&self, x: Self::Item) -> Result<(), Self::Fault>
-        requires { sound self.now }
-        ensures { result ≡ ask self.now (items self.now) (items self.now ++ (x ∷ [])) };
+        requires { Self.sound self.now }
+        ensures { result ≡ ask self.now (Self.items self.now) (Self.items self.now ++ (x ∷ [])) };
 
     // Whether a range of a source does: what `append` would answer.
     fn fits_range(&self, source: &Self, start: usize, end: usize) -> Result<(), Self::Fault>
-        requires { (sound self.now) × (sound source.now) }
-        ensures { result ≡ append_answer Self.Fault.Refusal.past (ask self.now) (items self.now) (items source.now) start end };
+        requires { (Self.sound self.now) × (Self.sound source.now) }
+        ensures { result ≡ append_answer Self.Fault.Refusal.past (ask self.now) (Self.items self.now) (Self.items source.now) start end };
 
     // Adds an item, refused with 3 where the limit would be passed.
     fn push(&mut self, x: Self::Item) -> Result<(), Self::Fault>
-        requires { sound self.old }
-        ensures sound { sound self.new }
-        ensures answer { result ≡ ask self.old (items self.old) (items self.old ++ (x ∷ [])) }
-        ensures list { items self.new ≡ grown (limit self.old (items self.old ++ (x ∷ []))) (items self.old) (items self.old ++ (x ∷ [])) }
+        requires { Self.sound self.old }
+        ensures sound { Self.sound self.new }
+        ensures answer { result ≡ ask self.old (Self.items self.old) (Self.items self.old ++ (x ∷ [])) }
+        ensures list { Self.items self.new ≡ grown (limit self.old (Self.items self.old ++ (x ∷ []))) (Self.items self.old) (Self.items self.old ++ (x ∷ [])) }
         ensures limit { limit self.new ≡ limit self.old }
         ensures ask { ask self.new ≡ ask self.old }
         ensures same { elim result [ Ok _ ↦ Unit {0} | Err _ ↦ self.new ≡ self.old ] };
@@ -67,19 +67,19 @@ pub trait Payload: Column {
     // Adds items `start` to `end - 1` of a source, nothing where start is at or above end: refused with 2
     // where the end lies past the source, then with 3.
     fn append(&mut self, source: &Self, start: usize, end: usize) -> Result<(), Self::Fault>
-        requires { (sound self.old) × (sound source.now) }
-        ensures sound { sound self.new }
-        ensures answer { result ≡ append_answer Self.Fault.Refusal.past (ask self.old) (items self.old) (items source.now) start end }
-        ensures list { items self.new ≡ append_list (limit self.old) (items self.old) (items source.now) start end }
+        requires { (Self.sound self.old) × (Self.sound source.now) }
+        ensures sound { Self.sound self.new }
+        ensures answer { result ≡ append_answer Self.Fault.Refusal.past (ask self.old) (Self.items self.old) (Self.items source.now) start end }
+        ensures list { Self.items self.new ≡ append_list (limit self.old) (Self.items self.old) (Self.items source.now) start end }
         ensures limit { limit self.new ≡ limit self.old }
         ensures ask { ask self.new ≡ ask self.old }
         ensures same { elim result [ Ok _ ↦ Unit {0} | Err _ ↦ self.new ≡ self.old ] };
 
     // Leaves no items.
     fn clear(&mut self)
-        requires { sound self.old }
-        ensures sound { sound self.new }
-        ensures list { items self.new ≡ [] }
+        requires { Self.sound self.old }
+        ensures sound { Self.sound self.new }
+        ensures list { Self.items self.new ≡ [] }
         ensures limit { limit self.new ≡ limit self.old }
         ensures ask { ask self.new ≡ ask self.old };
 
@@ -96,11 +96,11 @@ pub trait Payload: Column {
 pub trait Variant: Column {
     // The number of marked entries below `i`, refused with 1 above the length.
     fn rank(&self, i: usize) -> Result<usize, Self::Fault>
-        requires { sound self.now }
-        ensures { result ≡ rank_answer Self.Fault.Refusal.outside Variant.Kind.Kind.one (items self.now) i };
+        requires { Self.sound self.now }
+        ensures { result ≡ rank_answer Self.Fault.Refusal.outside Self.Kind.Kind.one (Self.items self.now) i };
 
     // The place of the marked entry that `r` marked ones stand before, or none.
     fn select(&self, r: u64) -> Option<usize>
-        requires { sound self.now }
-        ensures { result ≡ select_answer Variant.Kind.Kind.one (items self.now) r };
+        requires { Self.sound self.now }
+        ensures { result ≡ select_answer Self.Kind.Kind.one (Self.items self.now) r };
 }

@@ -1,6 +1,6 @@
 ghost use Rattle.std.specs.Prelude.{◌≡◌, ℕ, ◌+◌, ◌-◌, ◌≤◌, true, List, [], ◌∷◌, ◌++◌, length, Ok, Err};
 ghost use Rattle.bitlaws.specs.Bits.{rank_of};
-ghost use Rattle.bits.specs.Columns.{SoundIn, column_bits, «room_in»};
+ghost use Rattle.bits.specs.Columns.{SoundIn, column_bits, room_in};
 ghost use Rattle.columns.specs.Plain.{part, append_answer};
 
 use crate::column::{Column, Payload};
@@ -27,7 +27,7 @@ pub fn rank_in<C: ReadWords, V: ReadWords>(bits: &RankSelect<C, V>, i: usize) ->
 // for nothing but their promise that the stores are within them.
 pub fn bits_held<C: GrowWords, V: GrowWords>(bits: &RankSelect<C, V>)
     requires { SoundIn C.ReadWords V.ReadWords bits.now }
-    ensures { room_in C.GrowWords V.GrowWords bits.now (length (column_bits V.ReadWords bits.now)) ≡ true }
+    ensures { room_in C.GrowWords.own V.GrowWords.own bits.now (length (column_bits V.ReadWords bits.now)) ≡ true }
 {
     let _ = bits.counts().capacity();
     let _ = bits.values().words().capacity();
@@ -36,10 +36,10 @@ pub fn bits_held<C: GrowWords, V: GrowWords>(bits: &RankSelect<C, V>)
 // Adds a bit for which there is room.
 pub fn push_bit<C: GrowWords, V: GrowWords>(bits: &mut RankSelect<C, V>, bit: bool)
     requires sound { SoundIn C.ReadWords V.ReadWords bits.old }
-    requires room { room_in C.GrowWords V.GrowWords bits.old (length (column_bits V.ReadWords bits.old) + 1) ≡ true }
+    requires room { room_in C.GrowWords.own V.GrowWords.own bits.old (length (column_bits V.ReadWords bits.old) + 1) ≡ true }
     ensures list { column_bits V.ReadWords bits.new ≡ column_bits V.ReadWords bits.old ++ (bit ∷ []) }
     ensures sound { SoundIn C.ReadWords V.ReadWords bits.new }
-    ensures room { room_in C.GrowWords V.GrowWords bits.new ≡ room_in C.GrowWords V.GrowWords bits.old }
+    ensures room { room_in C.GrowWords.own V.GrowWords.own bits.new ≡ room_in C.GrowWords.own V.GrowWords.own bits.old }
 {
     match bits.push(bit) {
         Ok(()) => {}
@@ -57,10 +57,10 @@ pub fn append_bits<C: GrowWords, V: GrowWords>(
     requires sound { SoundIn C.ReadWords V.ReadWords bits.old }
     requires source { SoundIn C.ReadWords V.ReadWords source.now }
     requires within { end ≤ length (column_bits V.ReadWords source.now) }
-    requires room { room_in C.GrowWords V.GrowWords bits.old (length (column_bits V.ReadWords bits.old) + (end - start)) ≡ true }
+    requires room { room_in C.GrowWords.own V.GrowWords.own bits.old (length (column_bits V.ReadWords bits.old) + (end - start)) ≡ true }
     ensures list { column_bits V.ReadWords bits.new ≡ column_bits V.ReadWords bits.old ++ part (column_bits V.ReadWords source.now) start end }
     ensures sound { SoundIn C.ReadWords V.ReadWords bits.new }
-    ensures room { room_in C.GrowWords V.GrowWords bits.new ≡ room_in C.GrowWords V.GrowWords bits.old }
+    ensures room { room_in C.GrowWords.own V.GrowWords.own bits.new ≡ room_in C.GrowWords.own V.GrowWords.own bits.old }
 {
     match bits.append(source, start, end) {
         Ok(()) => {}
@@ -71,7 +71,7 @@ pub fn append_bits<C: GrowWords, V: GrowWords>(
 // Adds a range that `fits_range` has granted.
 pub fn append_items<T: Payload>(column: &mut T, source: &T, start: usize, end: usize)
     requires sound { (T.Column.sound column.old) × (T.Column.sound source.now) }
-    requires granted { append_answer Fault-as-Refusal.past (T.Payload.ask column.old) (T.Column.items column.old) (T.Column.items source.now) start end ≡ Ok tt }
+    requires granted { append_answer T.Fault.Refusal.past (T.Payload.ask column.old) (T.Column.items column.old) (T.Column.items source.now) start end ≡ Ok tt }
     ensures sound { T.Column.sound column.new }
     ensures list { T.Column.items column.new ≡ T.Column.items column.old ++ part (T.Column.items source.now) start end }
     ensures limit { T.Payload.limit column.new ≡ T.Payload.limit column.old }
