@@ -20,7 +20,7 @@ impl<S: GrowItems> Items<S> {
     // No items, over a store that is cleared.
     pub fn new(mut store: S) -> Self
         ensures list { S.ReadItems.list result.store ≡ [] }
-        ensures sound { Lawful Kind-as-Kind.fit (S.ReadItems.list result.store) }
+        ensures sound { Lawful S.Kind.Kind.fit (S.ReadItems.list result.store) }
         ensures room { S.GrowItems.room result.store ≡ S.GrowItems.room store }
     {
         store.clear();

@@ -31,20 +31,20 @@ pub trait GrowItems: ReadItems {
 
     fn capacity(&self) -> usize
         ensures value { result ≡ room self.now }
-        ensures within { length (list self.now) ≤ result }
+        ensures within { length (Self.list self.now) ≤ result }
         ensures small { result ≤ most_items };
 
     // Adds an item at the end, refused with 3 where the store is full. That the item fits its type is
     // said here, since the store knows the type.
     fn put(&mut self, x: Self::Item) -> Result<(), Fault>
-        ensures answer { result ≡ put_answer (list self.old) (room self.old) }
-        ensures list { list self.new ≡ put_list (list self.old) (room self.old) x }
+        ensures answer { result ≡ put_answer (Self.list self.old) (room self.old) }
+        ensures list { Self.list self.new ≡ put_list (Self.list self.old) (room self.old) x }
         ensures room { room self.new ≡ room self.old }
         ensures same { elim result [ Ok _ ↦ Unit {0} | Err _ ↦ self.new ≡ self.old ] }
-        ensures fit { GrowItems.Kind.Kind.fit x };
+        ensures fit { Self.Kind.Kind.fit x };
 
     fn clear(&mut self)
-        ensures list { list self.new ≡ [] }
+        ensures list { Self.list self.new ≡ [] }
         ensures room { room self.new ≡ room self.old };
 }
 

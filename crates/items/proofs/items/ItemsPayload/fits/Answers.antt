@@ -7,10 +7,10 @@ pub returns-then-n-capacity : goal.returns-then-n-capacity
 returns-then-n-capacity g c =
     let cap = g.S.GrowItems.room c.args.self.now.store in
     let xs = g.S.ReadItems.list c.args.self.now.store in
-    ap (λ n. Err (Full n)) c.len-n.ensures ∙ sym (answer_over cap xs (xs ++ (c.args.-x ∷ [])) (omega (arith, one_more cap xs c.args.-x, c.len-n.ensures, c.capacity.ensures.value)))
+    ap (λ n. Err (Full n)) c.len-n.ensures ∙ sym (answer_over cap xs (xs ++ (c.args._x ∷ [])) (omega (arith, one_more cap xs c.args._x, c.len-n.ensures, c.capacity.ensures.value)))
 
 pub returns : goal.returns
 returns g c =
     let cap = g.S.GrowItems.room c.args.self.now.store in
     let xs = g.S.ReadItems.list c.args.self.now.store in
-    sym (answer_fits cap xs (xs ++ (c.args.-x ∷ [])) (omega (arith, one_more cap xs c.args.-x, c.len-n.ensures, c.capacity.ensures.value)))
+    sym (answer_fits cap xs (xs ++ (c.args._x ∷ [])) (omega (arith, one_more cap xs c.args._x, c.len-n.ensures, c.capacity.ensures.value)))
