@@ -28,7 +28,7 @@ returns-in_err-fits_range g c =
     let s = c.args.start in
     let e = c.args.end in
     let told = c.in_err-fits_range.ensures in
-    let p = err_from_is_err_and c.from-residual.result c.from-residual.ensures.1 in
+    let p = err_from_is_err_and c.from_residual.result c.from_residual.ensures.1 in
     let l = list_told Past (within_answer cap) (within cap) xs src s e (within_asks cap xs) in
     record {
       sound = c.requires.0;
@@ -36,7 +36,7 @@ returns-in_err-fits_range g c =
       list = sym (l ∙ ap (λ r. grown (is_ok r) xs (xs ++ part src s e)) (sym told));
       limit = refl;
       ask = refl;
-      same = on_refusal c.from-residual.result refl;
+      same = on_refusal c.from_residual.result refl;
     }
 
 pub returns-then-start-end : goal.returns-then-start-end
@@ -52,7 +52,7 @@ returns-then-start-end g c =
     let k = granted_inside Past cap xs src s e h told in
     let r = granted_room Past cap xs src s e h told in
     let few : length (xs ++ part src s e) ≤ most_items = omega (arith, range_more cap xs src s e (omega arith) k, r, small) in
-    let fit = g.row.Kind-Kind.fit in
+    let fit = g.S.Kind.Kind.fit in
     let more = c.add_range.ensures.list in
     let l = list_told Past (within_answer cap) (within cap) xs src s e (within_asks cap xs) in
     record {

@@ -12,7 +12,7 @@ returns g c =
     let xs = g.S.ReadItems.list s in
     let x = c.args.x in
     let small : cap ≤ most_items = omega (arith, c.capacity.ensures.value, c.capacity.ensures.small) in
-    let fit = g.row.Kind-Kind.fit in
+    let fit = g.S.Kind.Kind.fit in
     let put = c.put.ensures in
     record {
       sound = subst (Lawful fit) (sym put.list) (put_lawful xs cap x fit small c.requires put.fit);

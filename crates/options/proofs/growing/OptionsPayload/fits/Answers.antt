@@ -18,7 +18,7 @@ returns-then-not-has_room g c =
 pub returns-in_err-fits : goal.returns-in_err-fits
 returns-in_err-fits g c =
     let s = c.args.self.now in
-    let p = err_from_is_err_and c.from-residual.result c.from-residual.ensures.1 in
+    let p = err_from_is_err_and c.from_residual.result c.from_residual.ensures.1 in
     p.1 ∙ ap Err p.2
     ∙ push_asked (room_in g.C.GrowWords g.V.GrowWords s.indexes) (g.T.Payload.limit s.somes) (g.T.Payload.ask s.somes)
     (column_bits g.V.ReadWords s.indexes) (g.T.Column.items s.somes) c.requires.many c.len-len.result c.len-len.ensures c.args.x

@@ -45,7 +45,7 @@ returns-in_err-fits_range g c =
     let inside : c.args.end ≤ length bt = omega (arith, c.len.ensures) in
     let q : true ≡ room (length bs + (c.args.end - c.args.start)) = c.if-not-has_room.ensures ∙ ap (λ n. room (n + (c.args.end - c.args.start))) c.len-n.ensures in
     let told = c.in_err-fits_range.ensures ∙ ap (λ n. append_answer past ask ss st n c.rank_in-last.result) c.rank_in-first.ensures.value ∙ ap (λ n. append_answer past ask ss st (rank_of bt c.args.start) n) c.rank_in-last.ensures.value in
-    let p = err_from_is_err_and c.from-residual.result c.from-residual.ensures.1 in
+    let p = err_from_is_err_and c.from_residual.result c.from_residual.ensures.1 in
     p.1 ∙ ap Err p.2
     ∙ range_asked room (g.T.Payload.limit s.somes) ask past bs bt ss st c.requires.0.many c.requires.1.many c.args.start c.args.end c.if-start-end.false inside
     (g.met.T.Payload.asks s.somes) c.held.ensures q _ told

@@ -46,7 +46,7 @@ returns-in_err-push g c =
     let xs = merge bs ss in
     let ys = xs ++ (c.args.x ∷ []) in
     let inner = c.in_err-push.ensures in
-    let p = err_from_is_err_and c.from-residual.result c.from-residual.ensures.1 in
+    let p = err_from_is_err_and c.from_residual.result c.from_residual.ensures.1 in
     let told = push_asked room lim ask bs ss c.requires.many c.len-n.result c.len-n.ensures c.args.x (v ∷ []) (ap (λ x. somes (x ∷ [])) c.in-Some.is) c.if-not-has_room.ensures _ inner.answer in
     let same : t ≡ s.somes = inner.same in
     record {
@@ -55,7 +55,7 @@ returns-in_err-push g c =
       list = ap (λ q. merge bs (g.T.Column.items q)) same ∙ grown_by (limited room lim) (asked room ask) xs ys _ (limit_asks room lim ask (g.met.T.Payload.asks s.somes) xs ys) told;
       limit = ap (limited room) inner.limit;
       ask = ap (asked room) inner.ask;
-      same = on_refusal c.from-residual.result (ap (λ q. record { indexes = s.indexes; somes = q }) same);
+      same = on_refusal c.from_residual.result (ap (λ q. record { indexes = s.indexes; somes = q }) same);
     }
 
 pub returns-in_ok-push : goal.returns-in_ok-push

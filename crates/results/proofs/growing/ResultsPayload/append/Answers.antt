@@ -23,7 +23,7 @@ returns-in_err-fits_range g c =
     let xs = merge (column_bits g.V.ReadWords s.indexes) (g.S.Column.items s.oks) (g.T.Column.items s.errs) in
     let ys = merge (column_bits g.V.ReadWords t.indexes) (g.S.Column.items t.oks) (g.T.Column.items t.errs) in
     let told = c.in_err-fits_range.ensures in
-    let p = err_from_is_err_and c.from-residual.result c.from-residual.ensures.1 in
+    let p = err_from_is_err_and c.from_residual.result c.from_residual.ensures.1 in
     let l = list_told own_past (asked room ao ae) (limited room lo le) xs ys c.args.start c.args.end (limit_asks room lo le ao ae (g.met.S.Payload.asks s.oks) (g.met.T.Payload.asks s.errs) xs) in
     record {
       sound = c.requires.0;
@@ -31,7 +31,7 @@ returns-in_err-fits_range g c =
       list = sym (l ∙ ap (λ r. grown (is_ok r) xs (xs ++ part ys c.args.start c.args.end)) (sym told));
       limit = refl;
       ask = refl;
-      same = on_refusal c.from-residual.result refl;
+      same = on_refusal c.from_residual.result refl;
     }
 
 pub rank_in-first-requires : goal.rank_in-first-requires

@@ -42,7 +42,7 @@ returns-in_err-of_oks g c =
     let inside : c.args.end ≤ length bt = omega (arith, c.len.ensures) in
     let q : true ≡ room (length bs + (c.args.end - c.args.start)) = c.if-not-has_room.ensures ∙ ap (λ n. room (n + (c.args.end - c.args.start))) c.len-n.ensures in
     let told = c.fits_range.ensures ∙ ap (λ n. append_answer po ao os ot n c.rank_in-last.result) c.rank_in-first.ensures.value ∙ ap (λ n. append_answer po ao os ot (rank_of bt c.args.start) n) c.rank_in-last.ensures.value in
-    let p = err_from_is_err_and c.from-residual.result c.from-residual.ensures.1 in
+    let p = err_from_is_err_and c.from_residual.result c.from_residual.ensures.1 in
     p.1 ∙ ap Err p.2
     ∙ range_by_oks room (g.S.Payload.limit s.oks) (g.T.Payload.limit s.errs) ao (g.T.Payload.ask s.errs) po g.Fault-as-Refusal-2.past
     bs os (g.T.Column.items s.errs) c.requires.0.ones c.requires.0.zeros bt ot (g.T.Column.items t.errs) c.requires.1.ones c.requires.1.zeros c.args.start c.args.end c.if-start-end.false inside

@@ -48,7 +48,7 @@ returns-in_err-of_oks g c =
     let ys = xs ++ (x ∷ []) in
     let inner = c.push.ensures in
     let side = c.in_err-of_oks.ensures in
-    let p = err_from_is_err_and c.from-residual.result c.from-residual.ensures.1 in
+    let p = err_from_is_err_and c.from_residual.result c.from_residual.ensures.1 in
     let fine = held_answer le ae es (g.met.T.Payload.asks s.errs es) c.held.ensures in
     let told = push_by_oks room lo le ao ae bs os es c.requires.ones c.requires.zeros c.len-n.result c.len-n.ensures x (c.in-Ok.v ∷ []) [] (ap (λ x. oks (x ∷ [])) c.in-Ok.is) (ap (λ x. errs (x ∷ [])) c.in-Ok.is) c.if-not-has_room.ensures fine _ c.push.result side inner.answer in
     let same : c.push.new.self ≡ s.oks = ok_refused (c.push.new.self ≡ s.oks) _ c.push.result side inner.same in
@@ -58,7 +58,7 @@ returns-in_err-of_oks g c =
       list = ap (λ q. merge bs (g.S.Column.items q) es) same ∙ grown_by (limited room lo le) (asked room ao ae) xs ys _ (limit_asks room lo le ao ae (g.met.S.Payload.asks s.oks) (g.met.T.Payload.asks s.errs) xs ys) told;
       limit = ap (λ l. limited room l le) inner.limit;
       ask = ap (λ a. asked room a ae) inner.ask;
-      same = on_refusal c.from-residual.result (ap (λ q. record { indexes = s.indexes; oks = q; errs = s.errs }) same);
+      same = on_refusal c.from_residual.result (ap (λ q. record { indexes = s.indexes; oks = q; errs = s.errs }) same);
     }
 
 pub returns-in_err-of_errs : goal.returns-in_err-of_errs
@@ -77,7 +77,7 @@ returns-in_err-of_errs g c =
     let ys = xs ++ (x ∷ []) in
     let inner = c.push-in-Err.ensures in
     let side = c.in_err-of_errs.ensures in
-    let p = err_from_is_err_and c.from-residual-in_err-of_errs.result c.from-residual-in_err-of_errs.ensures.1 in
+    let p = err_from_is_err_and c.from_residual-in_err-of_errs.result c.from_residual-in_err-of_errs.ensures.1 in
     let fine = held_answer lo ao os (g.met.S.Payload.asks s.oks os) c.held-in-Err.ensures in
     let told = push_by_errs room lo le ao ae bs os es c.requires.ones c.requires.zeros c.len-n.result c.len-n.ensures x [] (c.in-Err.w ∷ []) (ap (λ x. oks (x ∷ [])) c.in-Err.is) (ap (λ x. errs (x ∷ [])) c.in-Err.is) c.if-not-has_room.ensures fine _ c.push-in-Err.result side inner.answer in
     let same : c.push-in-Err.new.self ≡ s.errs = err_refused (c.push-in-Err.new.self ≡ s.errs) _ c.push-in-Err.result side inner.same in
@@ -87,7 +87,7 @@ returns-in_err-of_errs g c =
       list = ap (λ q. merge bs os (g.T.Column.items q)) same ∙ grown_by (limited room lo le) (asked room ao ae) xs ys _ (limit_asks room lo le ao ae (g.met.S.Payload.asks s.oks) (g.met.T.Payload.asks s.errs) xs ys) told;
       limit = ap (limited room lo) inner.limit;
       ask = ap (asked room ao) inner.ask;
-      same = on_refusal c.from-residual-in_err-of_errs.result (ap (λ q. record { indexes = s.indexes; oks = s.oks; errs = q }) same);
+      same = on_refusal c.from_residual-in_err-of_errs.result (ap (λ q. record { indexes = s.indexes; oks = s.oks; errs = q }) same);
     }
 
 pub returns-in_ok-of_oks : goal.returns-in_ok-of_oks
