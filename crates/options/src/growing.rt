@@ -1,8 +1,7 @@
 ghost use Rattle.std.specs.Prelude.{◌≡◌, ℕ, true, List, [], ◌∷◌, ◌++◌, length, Ok, Err};
-ghost use Rattle.bits.specs.Columns.{SoundIn, column_bits, «room_in»};
+ghost use Rattle.bits.specs.Columns.{SoundIn, column_bits, room_in};
 ghost use Rattle.options.specs.Entries.{merge, Sound};
 ghost use Rattle.options.specs.Limits.{limited, asked};
-ghost use Rattle.bits.specs.Columns;
 ghost use Rattle.bits.proofs.Growing.{fits_less};
 ghost use Rattle.options.specs.Limiting.{limit_begins, limit_asks, limit_third};
 ghost use Rattle.std.proofs.Common.{rules};
@@ -38,19 +37,19 @@ impl<T: Payload, C: GrowWords, V: GrowWords> Options<T, C, V> {
 }
 
 impl<T: Payload, C: GrowWords, V: GrowWords> Payload for Options<T, C, V> {
-    ghost limit = { λ s. limited (room_in C.GrowWords V.GrowWords s.indexes) (T.Payload.limit s.somes) };
+    ghost limit = { λ s. limited (room_in C.GrowWords.own V.GrowWords.own s.indexes) (T.Payload.limit s.somes) };
 
-    ghost ask = { λ s. asked (room_in C.GrowWords V.GrowWords s.indexes) (T.Payload.ask s.somes) };
+    ghost ask = { λ s. asked (room_in C.GrowWords.own V.GrowWords.own s.indexes) (T.Payload.ask s.somes) };
 
     ghost empty = { Prim.search rules };
 
     ghost begins = { λ s xs ys e.
-        limit_begins (Columns.room_in C.GrowWords V.GrowWords s.indexes) (T.Payload.limit s.somes) (T.Payload.ask s.somes)
+        limit_begins (room_in C.GrowWords.own V.GrowWords.own s.indexes) (T.Payload.limit s.somes) (T.Payload.ask s.somes)
         (λ m n h. fits_less m n (V.GrowWords.room s.indexes.values.values) (C.GrowWords.room s.indexes.counts) h) (T.Payload.begins s.somes) xs ys e };
 
-    ghost asks = { λ s xs ys. limit_asks (Columns.room_in C.GrowWords V.GrowWords s.indexes) (T.Payload.limit s.somes) (T.Payload.ask s.somes) (T.Payload.asks s.somes) xs ys };
+    ghost asks = { λ s xs ys. limit_asks (room_in C.GrowWords.own V.GrowWords.own s.indexes) (T.Payload.limit s.somes) (T.Payload.ask s.somes) (T.Payload.asks s.somes) xs ys };
 
-    ghost third = { λ s xs ys f e. limit_third (Columns.room_in C.GrowWords V.GrowWords s.indexes) (T.Payload.limit s.somes) (T.Payload.ask s.somes) Fault-as-Refusal.numbered (T.Payload.third s.somes) xs ys f e };
+    ghost third = { λ s xs ys f e. limit_third (room_in C.GrowWords.own V.GrowWords.own s.indexes) (T.Payload.limit s.somes) (T.Payload.ask s.somes) T.Fault.Refusal.numbered (T.Payload.third s.somes) xs ys f e };
 
     fn held(&self) {
         bits_held(&self.indexes);

@@ -2,7 +2,6 @@ ghost use Rattle.std.specs.Prelude.{◌≡◌, ℕ, List, [], length, Ok, Err};
 ghost use Rattle.std.proofs.Common.{sym, subst, arith};
 ghost use Rattle.bits.specs.Columns.{SoundIn, column_bits};
 ghost use Rattle.options.specs.Entries.{merge, Sound};
-ghost use Rattle.bits.specs.Columns;
 ghost use Rattle.columns.specs.Kinds.{Each};
 ghost use Rattle.columns.proofs.Marked.{marks_few};
 ghost use Rattle.options.specs.EntriesLemmas.{merge_length, somes_merge, each_entry};
@@ -37,7 +36,7 @@ impl<T: Column, C: ReadWords, V: ReadWords> Column for Options<T, C, V> {
     ghost sound = { λ s. Sound (SoundIn C.ReadWords V.ReadWords s.indexes) (T.Column.sound s.somes) (column_bits V.ReadWords s.indexes) (T.Column.items s.somes) };
 
     ghost lawful = { λ s h.
-        let bs = Columns.column_bits V.ReadWords s.indexes in
+        let bs = column_bits V.ReadWords s.indexes in
         let ss = T.Column.items s.somes in
         let fit = T.Kind.Kind.fit in
         let l = T.Column.lawful s.somes h.held in

@@ -1,8 +1,7 @@
 ghost use Rattle.std.specs.Prelude.{◌≡◌, ℕ, true, List, [], ◌∷◌, ◌++◌, length, Ok, Err};
-ghost use Rattle.bits.specs.Columns.{SoundIn, column_bits, «room_in»};
+ghost use Rattle.bits.specs.Columns.{SoundIn, column_bits, room_in};
 ghost use Rattle.results.specs.Entries.{merge, Sound};
 ghost use Rattle.results.specs.Limits.{limited, asked};
-ghost use Rattle.bits.specs.Columns;
 ghost use Rattle.bits.proofs.Growing.{fits_less};
 ghost use Rattle.results.specs.Limiting.{limit_begins, limit_asks, limit_third};
 ghost use Rattle.std.proofs.Common.{rules};
@@ -40,23 +39,23 @@ impl<S: Payload, T: Payload, C: GrowWords, V: GrowWords> Results<S, T, C, V> {
 }
 
 impl<S: Payload, T: Payload, C: GrowWords, V: GrowWords> Payload for Results<S, T, C, V> {
-    ghost limit = { λ s. limited (room_in C.GrowWords V.GrowWords s.indexes) (S.Payload.limit s.oks) (T.Payload.limit s.errs) };
+    ghost limit = { λ s. limited (room_in C.GrowWords.own V.GrowWords.own s.indexes) (S.Payload.limit s.oks) (T.Payload.limit s.errs) };
 
-    ghost ask = { λ s. asked (room_in C.GrowWords V.GrowWords s.indexes) (S.Payload.ask s.oks) (T.Payload.ask s.errs) };
+    ghost ask = { λ s. asked (room_in C.GrowWords.own V.GrowWords.own s.indexes) (S.Payload.ask s.oks) (T.Payload.ask s.errs) };
 
     ghost empty = { Prim.search rules };
 
     ghost begins = { λ s xs ys e.
-        limit_begins (Columns.room_in C.GrowWords V.GrowWords s.indexes) (S.Payload.limit s.oks) (T.Payload.limit s.errs) (S.Payload.ask s.oks) (T.Payload.ask s.errs)
+        limit_begins (room_in C.GrowWords.own V.GrowWords.own s.indexes) (S.Payload.limit s.oks) (T.Payload.limit s.errs) (S.Payload.ask s.oks) (T.Payload.ask s.errs)
         (λ m n h. fits_less m n (V.GrowWords.room s.indexes.values.values) (C.GrowWords.room s.indexes.counts) h) (S.Payload.begins s.oks) (T.Payload.begins s.errs) xs ys e };
 
     ghost asks = { λ s xs ys.
-        limit_asks (Columns.room_in C.GrowWords V.GrowWords s.indexes) (S.Payload.limit s.oks) (T.Payload.limit s.errs) (S.Payload.ask s.oks) (T.Payload.ask s.errs)
+        limit_asks (room_in C.GrowWords.own V.GrowWords.own s.indexes) (S.Payload.limit s.oks) (T.Payload.limit s.errs) (S.Payload.ask s.oks) (T.Payload.ask s.errs)
         (S.Payload.asks s.oks) (T.Payload.asks s.errs) xs ys };
 
     ghost third = { λ s xs ys f e.
-        limit_third (Columns.room_in C.GrowWords V.GrowWords s.indexes) (S.Payload.limit s.oks) (T.Payload.limit s.errs) (S.Payload.ask s.oks) (T.Payload.ask s.errs)
-        Fault-as-Refusal-1.numbered Fault-as-Refusal-2.numbered (S.Payload.third s.oks) (T.Payload.third s.errs) xs ys f e };
+        limit_third (room_in C.GrowWords.own V.GrowWords.own s.indexes) (S.Payload.limit s.oks) (T.Payload.limit s.errs) (S.Payload.ask s.oks) (T.Payload.ask s.errs)
+        S.Fault.Refusal.numbered T.Fault.Refusal.numbered (S.Payload.third s.oks) (T.Payload.third s.errs) xs ys f e };
 
     fn held(&self) {
         bits_held(&self.indexes);

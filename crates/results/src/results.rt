@@ -2,7 +2,6 @@ ghost use Rattle.std.specs.Prelude.{◌≡◌, ℕ, List, [], length, Ok, Err};
 ghost use Rattle.std.proofs.Common.{sym, subst, arith};
 ghost use Rattle.bits.specs.Columns.{SoundIn, column_bits};
 ghost use Rattle.results.specs.Entries.{merge, Sound};
-ghost use Rattle.bits.specs.Columns;
 ghost use Rattle.columns.specs.Kinds.{Each};
 ghost use Rattle.columns.proofs.Marked.{marks_few};
 ghost use Rattle.results.specs.EntriesLemmas.{merge_length, oks_merge, errs_merge, each_entry};
@@ -38,16 +37,16 @@ impl<S: Column, T: Column, C: ReadWords, V: ReadWords> Column for Results<S, T, 
     ghost sound = { λ s. Sound (SoundIn C.ReadWords V.ReadWords s.indexes) (S.Column.sound s.oks) (T.Column.sound s.errs) (column_bits V.ReadWords s.indexes) (S.Column.items s.oks) (T.Column.items s.errs) };
 
     ghost lawful = { λ s h.
-        let bs = Columns.column_bits V.ReadWords s.indexes in
+        let bs = column_bits V.ReadWords s.indexes in
         let os = S.Column.items s.oks in
         let es = T.Column.items s.errs in
-        let fit-oks = Kind-as-Kind-1.fit in
-        let fit-errs = Kind-as-Kind-2.fit in
+        let fit_oks = S.Kind.Kind.fit in
+        let fit_errs = T.Kind.Kind.fit in
         record {
           few = omega (arith, merge_length bs os es h.ones h.zeros, marks_few C.ReadWords V.ReadWords s.indexes h.marked);
-          each = each_entry fit-oks fit-errs (merge bs os es)
-              (subst (Each fit-oks) (sym (oks_merge bs os es h.ones h.zeros)) (S.Column.lawful s.oks h.oks).each)
-              (subst (Each fit-errs) (sym (errs_merge bs os es h.ones h.zeros)) (T.Column.lawful s.errs h.errs).each);
+          each = each_entry fit_oks fit_errs (merge bs os es)
+              (subst (Each fit_oks) (sym (oks_merge bs os es h.ones h.zeros)) (S.Column.lawful s.oks h.oks).each)
+              (subst (Each fit_errs) (sym (errs_merge bs os es h.ones h.zeros)) (T.Column.lawful s.errs h.errs).each);
         } };
 
     fn len(&self) -> usize {

@@ -15,21 +15,21 @@ returns-then-not-has_room g c =
     push_over (room_in g.C.GrowWords g.V.GrowWords s.indexes) (g.T.Payload.limit s.somes) (g.T.Payload.ask s.somes)
     (column_bits g.V.ReadWords s.indexes) (g.T.Column.items s.somes) c.requires.many c.len-len.result c.len-len.ensures c.args.x c.if-not-has_room.ensures
 
-pub returns-in_err-fits : goal.returns-in_err-fits
-returns-in_err-fits g c =
+pub returns-in_err-fits-in-Some : goal.returns-in_err-fits-in-Some
+returns-in_err-fits-in-Some g c =
     let s = c.args.self.now in
     let p = err_from_is_err_and c.from_residual.result c.from_residual.ensures.1 in
     p.1 ∙ ap Err p.2
     ∙ push_asked (room_in g.C.GrowWords g.V.GrowWords s.indexes) (g.T.Payload.limit s.somes) (g.T.Payload.ask s.somes)
     (column_bits g.V.ReadWords s.indexes) (g.T.Column.items s.somes) c.requires.many c.len-len.result c.len-len.ensures c.args.x
-    (c.in-Some.v ∷ []) (ap (λ x. somes (x ∷ [])) c.in-Some.is) c.if-not-has_room.ensures _ c.in_err-fits.ensures
+    (c.in-Some.v ∷ []) (ap (λ x. somes (x ∷ [])) c.in-Some.is) c.if-not-has_room.ensures _ c.in_err-fits-in-Some.ensures
 
-pub returns-in_ok-fits : goal.returns-in_ok-fits
-returns-in_ok-fits g c =
+pub returns-in_ok-fits-in-Some : goal.returns-in_ok-fits-in-Some
+returns-in_ok-fits-in-Some g c =
     let s = c.args.self.now in
     push_asked (room_in g.C.GrowWords g.V.GrowWords s.indexes) (g.T.Payload.limit s.somes) (g.T.Payload.ask s.somes)
     (column_bits g.V.ReadWords s.indexes) (g.T.Column.items s.somes) c.requires.many c.len-len.result c.len-len.ensures c.args.x
-    (c.in-Some.v ∷ []) (ap (λ x. somes (x ∷ [])) c.in-Some.is) c.if-not-has_room.ensures (Ok tt) c.in_ok-fits.ensures
+    (c.in-Some.v ∷ []) (ap (λ x. somes (x ∷ [])) c.in-Some.is) c.if-not-has_room.ensures (Ok tt) c.in_ok-fits-in-Some.ensures
 
 pub returns-in-None : goal.returns-in-None
 returns-in-None g c =

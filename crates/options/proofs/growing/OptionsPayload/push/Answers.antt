@@ -33,8 +33,8 @@ returns-then-not-has_room g c =
       same = refl;
     }
 
-pub returns-in_err-push : goal.returns-in_err-push
-returns-in_err-push g c =
+pub returns-in_err-push-in-Some : goal.returns-in_err-push-in-Some
+returns-in_err-push-in-Some g c =
     let s = c.args.self.now in
     let t = c.push.new.self in
     let room = room_in g.C.GrowWords g.V.GrowWords s.indexes in
@@ -45,7 +45,7 @@ returns-in_err-push g c =
     let v = c.in-Some.v in
     let xs = merge bs ss in
     let ys = xs ++ (c.args.x ∷ []) in
-    let inner = c.in_err-push.ensures in
+    let inner = c.in_err-push-in-Some.ensures in
     let p = err_from_is_err_and c.from_residual.result c.from_residual.ensures.1 in
     let told = push_asked room lim ask bs ss c.requires.many c.len-n.result c.len-n.ensures c.args.x (v ∷ []) (ap (λ x. somes (x ∷ [])) c.in-Some.is) c.if-not-has_room.ensures _ inner.answer in
     let same : t ≡ s.somes = inner.same in
@@ -58,8 +58,8 @@ returns-in_err-push g c =
       same = on_refusal c.from_residual.result (ap (λ q. record { indexes = s.indexes; somes = q }) same);
     }
 
-pub returns-in_ok-push : goal.returns-in_ok-push
-returns-in_ok-push g c =
+pub returns-in_ok-push-in-Some : goal.returns-in_ok-push-in-Some
+returns-in_ok-push-in-Some g c =
     let s = c.args.self.now in
     let room = room_in g.C.GrowWords g.V.GrowWords s.indexes in
     let lim = g.T.Payload.limit s.somes in
@@ -70,7 +70,7 @@ returns-in_ok-push g c =
     let x = c.args.x in
     let xs = merge bs ss in
     let ys = xs ++ (x ∷ []) in
-    let inner = c.in_ok-push.ensures in
+    let inner = c.in_ok-push-in-Some.ensures in
     let marks = c.push_bit.ensures in
     let law = g.met.T.Payload.asks s.somes in
     let more : g.T.Column.items c.push.new.self ≡ ss ++ (v ∷ []) = inner.list ∙ sym (grown_by lim ask ss (ss ++ (v ∷ [])) (Ok tt) (law ss (ss ++ (v ∷ []))) inner.answer) in

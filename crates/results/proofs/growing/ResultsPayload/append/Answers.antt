@@ -38,7 +38,7 @@ pub rank_in-first-requires : goal.rank_in-first-requires
 rank_in-first-requires g c =
     let s = c.args.self.now in
     let t = c.args.source.now in
-    let k = granted_end (room_in g.C.GrowWords g.V.GrowWords s.indexes) (g.S.Payload.limit s.oks) (g.T.Payload.limit s.errs) (g.S.Payload.ask s.oks) (g.T.Payload.ask s.errs) g.Fault-as-Refusal-1.past g.Fault-as-Refusal-2.past
+    let k = granted_end (room_in g.C.GrowWords g.V.GrowWords s.indexes) (g.S.Payload.limit s.oks) (g.T.Payload.limit s.errs) (g.S.Payload.ask s.oks) (g.T.Payload.ask s.errs) g.S.Fault.Refusal.past g.T.Fault.Refusal.past
     (column_bits g.V.ReadWords s.indexes) (g.S.Column.items s.oks) (g.T.Column.items s.errs) c.requires.0.ones c.requires.0.zeros
     (column_bits g.V.ReadWords t.indexes) (g.S.Column.items t.oks) (g.T.Column.items t.errs) c.requires.1.ones c.requires.1.zeros c.args.start c.args.end c.if-start-end.false c.in_ok-fits_range.ensures in
     record { sound = c.requires.1.marked; within = omega (arith, k, c.if-start-end.false) }
@@ -47,7 +47,7 @@ pub rank_in-last-requires : goal.rank_in-last-requires
 rank_in-last-requires g c =
     let s = c.args.self.now in
     let t = c.args.source.now in
-    let k = granted_end (room_in g.C.GrowWords g.V.GrowWords s.indexes) (g.S.Payload.limit s.oks) (g.T.Payload.limit s.errs) (g.S.Payload.ask s.oks) (g.T.Payload.ask s.errs) g.Fault-as-Refusal-1.past g.Fault-as-Refusal-2.past
+    let k = granted_end (room_in g.C.GrowWords g.V.GrowWords s.indexes) (g.S.Payload.limit s.oks) (g.T.Payload.limit s.errs) (g.S.Payload.ask s.oks) (g.T.Payload.ask s.errs) g.S.Fault.Refusal.past g.T.Fault.Refusal.past
     (column_bits g.V.ReadWords s.indexes) (g.S.Column.items s.oks) (g.T.Column.items s.errs) c.requires.0.ones c.requires.0.zeros
     (column_bits g.V.ReadWords t.indexes) (g.S.Column.items t.oks) (g.T.Column.items t.errs) c.requires.1.ones c.requires.1.zeros c.args.start c.args.end c.if-start-end.false c.in_ok-fits_range.ensures in
     record { sound = c.requires.1.marked; within = k }
@@ -61,8 +61,8 @@ append_items-requires g c =
     let le = g.T.Payload.limit s.errs in
     let ao = g.S.Payload.ask s.oks in
     let ae = g.T.Payload.ask s.errs in
-    let po = g.Fault-as-Refusal-1.past in
-    let pe = g.Fault-as-Refusal-2.past in
+    let po = g.S.Fault.Refusal.past in
+    let pe = g.T.Fault.Refusal.past in
     let bs = column_bits g.V.ReadWords s.indexes in
     let os = g.S.Column.items s.oks in
     let es = g.T.Column.items s.errs in
@@ -87,8 +87,8 @@ append_items-requires-2 g c =
     let le = g.T.Payload.limit s.errs in
     let ao = g.S.Payload.ask s.oks in
     let ae = g.T.Payload.ask s.errs in
-    let po = g.Fault-as-Refusal-1.past in
-    let pe = g.Fault-as-Refusal-2.past in
+    let po = g.S.Fault.Refusal.past in
+    let pe = g.T.Fault.Refusal.past in
     let bs = column_bits g.V.ReadWords s.indexes in
     let os = g.S.Column.items s.oks in
     let es = g.T.Column.items s.errs in
@@ -115,8 +115,8 @@ append_bits-requires g c =
     let le = g.T.Payload.limit s.errs in
     let ao = g.S.Payload.ask s.oks in
     let ae = g.T.Payload.ask s.errs in
-    let po = g.Fault-as-Refusal-1.past in
-    let pe = g.Fault-as-Refusal-2.past in
+    let po = g.S.Fault.Refusal.past in
+    let pe = g.T.Fault.Refusal.past in
     let bs = column_bits g.V.ReadWords s.indexes in
     let os = g.S.Column.items s.oks in
     let es = g.T.Column.items s.errs in
@@ -142,8 +142,8 @@ returns g c =
     let le = g.T.Payload.limit s.errs in
     let ao = g.S.Payload.ask s.oks in
     let ae = g.T.Payload.ask s.errs in
-    let po = g.Fault-as-Refusal-1.past in
-    let pe = g.Fault-as-Refusal-2.past in
+    let po = g.S.Fault.Refusal.past in
+    let pe = g.T.Fault.Refusal.past in
     let bs = column_bits g.V.ReadWords s.indexes in
     let os = g.S.Column.items s.oks in
     let es = g.T.Column.items s.errs in

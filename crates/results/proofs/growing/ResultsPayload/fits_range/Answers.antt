@@ -13,7 +13,7 @@ returns-then-end-len g c =
     let t = c.args.source.now in
     let bt = column_bits g.V.ReadWords t.indexes in
     let over : length bt < c.args.end = omega (arith, c.len.ensures) in
-    range_past (room_in g.C.GrowWords g.V.GrowWords s.indexes) (g.S.Payload.limit s.oks) (g.T.Payload.limit s.errs) (g.S.Payload.ask s.oks) (g.T.Payload.ask s.errs) g.Fault-as-Refusal-1.past g.Fault-as-Refusal-2.past
+    range_past (room_in g.C.GrowWords g.V.GrowWords s.indexes) (g.S.Payload.limit s.oks) (g.T.Payload.limit s.errs) (g.S.Payload.ask s.oks) (g.T.Payload.ask s.errs) g.S.Fault.Refusal.past g.T.Fault.Refusal.past
     (column_bits g.V.ReadWords s.indexes) (g.S.Column.items s.oks) (g.T.Column.items s.errs) c.requires.0.ones c.requires.0.zeros
     bt (g.S.Column.items t.oks) (g.T.Column.items t.errs) c.requires.1.ones c.requires.1.zeros c.args.start c.args.end c.if-start-end.false over
 
@@ -23,7 +23,7 @@ returns-then-not-has_room g c =
     let t = c.args.source.now in
     let bt = column_bits g.V.ReadWords t.indexes in
     let inside : c.args.end ≤ length bt = omega (arith, c.len.ensures) in
-    range_over (room_in g.C.GrowWords g.V.GrowWords s.indexes) (g.S.Payload.limit s.oks) (g.T.Payload.limit s.errs) (g.S.Payload.ask s.oks) (g.T.Payload.ask s.errs) g.Fault-as-Refusal-1.past g.Fault-as-Refusal-2.past
+    range_over (room_in g.C.GrowWords g.V.GrowWords s.indexes) (g.S.Payload.limit s.oks) (g.T.Payload.limit s.errs) (g.S.Payload.ask s.oks) (g.T.Payload.ask s.errs) g.S.Fault.Refusal.past g.T.Fault.Refusal.past
     (column_bits g.V.ReadWords s.indexes) (g.S.Column.items s.oks) (g.T.Column.items s.errs) c.requires.0.ones c.requires.0.zeros
     bt (g.S.Column.items t.oks) (g.T.Column.items t.errs) c.requires.1.ones c.requires.1.zeros c.args.start c.args.end c.if-start-end.false inside
     c.len-n.result c.len-n.ensures c.if-not-has_room.ensures
@@ -34,7 +34,7 @@ returns-in_err-of_oks g c =
     let t = c.args.source.now in
     let room = room_in g.C.GrowWords g.V.GrowWords s.indexes in
     let ao = g.S.Payload.ask s.oks in
-    let po = g.Fault-as-Refusal-1.past in
+    let po = g.S.Fault.Refusal.past in
     let bs = column_bits g.V.ReadWords s.indexes in
     let bt = column_bits g.V.ReadWords t.indexes in
     let os = g.S.Column.items s.oks in
@@ -44,7 +44,7 @@ returns-in_err-of_oks g c =
     let told = c.fits_range.ensures ∙ ap (λ n. append_answer po ao os ot n c.rank_in-last.result) c.rank_in-first.ensures.value ∙ ap (λ n. append_answer po ao os ot (rank_of bt c.args.start) n) c.rank_in-last.ensures.value in
     let p = err_from_is_err_and c.from_residual.result c.from_residual.ensures.1 in
     p.1 ∙ ap Err p.2
-    ∙ range_by_oks room (g.S.Payload.limit s.oks) (g.T.Payload.limit s.errs) ao (g.T.Payload.ask s.errs) po g.Fault-as-Refusal-2.past
+    ∙ range_by_oks room (g.S.Payload.limit s.oks) (g.T.Payload.limit s.errs) ao (g.T.Payload.ask s.errs) po g.T.Fault.Refusal.past
     bs os (g.T.Column.items s.errs) c.requires.0.ones c.requires.0.zeros bt ot (g.T.Column.items t.errs) c.requires.1.ones c.requires.1.zeros c.args.start c.args.end c.if-start-end.false inside
     (g.met.S.Payload.asks s.oks) (g.met.T.Payload.asks s.errs) c.held.ensures c.held-2.ensures q _ c.fits_range.result c.in_err-of_oks.ensures told
 
@@ -55,8 +55,8 @@ returns g c =
     let room = room_in g.C.GrowWords g.V.GrowWords s.indexes in
     let ao = g.S.Payload.ask s.oks in
     let ae = g.T.Payload.ask s.errs in
-    let po = g.Fault-as-Refusal-1.past in
-    let pe = g.Fault-as-Refusal-2.past in
+    let po = g.S.Fault.Refusal.past in
+    let pe = g.T.Fault.Refusal.past in
     let bs = column_bits g.V.ReadWords s.indexes in
     let bt = column_bits g.V.ReadWords t.indexes in
     let os = g.S.Column.items s.oks in

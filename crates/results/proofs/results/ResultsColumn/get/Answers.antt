@@ -49,7 +49,7 @@ returns-in_ok-x g c =
     let es = g.T.Column.items s.errs in
     let i = c.args.i in
     let p = mark_found bs i c.in-Ok.bit c.in-Ok.ensures in
-    let e = sym (ok_side c.in_ok-x.x c.get-then-ok.result c.in_ok-x.ensures) ∙ c.get-then-ok.ensures ∙ ap (λ n. got (g.Fault-as-Refusal-1.outside n) os n) c.rank_in-rank.ensures.value in
+    let e = sym (ok_side c.in_ok-x.x c.get-then-ok.result c.in_ok-x.ensures) ∙ c.get-then-ok.ensures ∙ ap (λ n. got (g.S.Fault.Refusal.outside n) os n) c.rank_in-rank.ensures.value in
     sym (get_ok bs os es c.requires.ones c.requires.zeros _ _ i c.in_ok-x.x p.0 (p.1 ∙ c.if-ok.true) e)
 
 pub returns-in_ok-y : goal.returns-in_ok-y
@@ -60,5 +60,5 @@ returns-in_ok-y g c =
     let es = g.T.Column.items s.errs in
     let i = c.args.i in
     let p = mark_found bs i c.in-Ok.bit c.in-Ok.ensures in
-    let e = sym (err_side c.in_ok-y.y c.get-else-ok.result c.in_ok-y.ensures) ∙ c.get-else-ok.ensures ∙ ap (λ n. got (g.Fault-as-Refusal-2.outside (i - n)) es (i - n)) c.rank_in-rank.ensures.value in
+    let e = sym (err_side c.in_ok-y.y c.get-else-ok.result c.in_ok-y.ensures) ∙ c.get-else-ok.ensures ∙ ap (λ n. got (g.T.Fault.Refusal.outside (i - n)) es (i - n)) c.rank_in-rank.ensures.value in
     sym (get_err bs os es c.requires.ones c.requires.zeros _ _ i c.in_ok-y.y p.0 (p.1 ∙ c.if-ok.false) e)
