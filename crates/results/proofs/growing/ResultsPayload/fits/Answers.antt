@@ -19,7 +19,7 @@ returns-in-Ok g c =
     push_by_oks (room_in g.C.GrowWords g.V.GrowWords s.indexes) (g.S.Payload.limit s.oks) le (g.S.Payload.ask s.oks) ae
     (column_bits g.V.ReadWords s.indexes) (g.S.Column.items s.oks) es c.requires.ones c.requires.zeros c.len-len.result c.len-len.ensures c.args.x
     (c.in-Ok.v ∷ []) [] (ap (λ x. oks (x ∷ [])) c.in-Ok.is) (ap (λ x. errs (x ∷ [])) c.in-Ok.is) c.if-not-has_room.ensures
-    (held_answer le ae es (g.met.T.Payload.asks s.errs es) c.held.ensures) c.of_oks.result c.fits-in-Ok.result c.of_oks.ensures c.fits-in-Ok.ensures
+    (held_answer le ae es (g.met.T.Payload.asks s.errs es) c.held.ensures) c.of_oks.result c.fits.result c.of_oks.ensures c.fits.ensures
 
 pub returns-in-Err : goal.returns-in-Err
 returns-in-Err g c =

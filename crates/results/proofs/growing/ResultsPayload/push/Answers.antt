@@ -32,8 +32,8 @@ returns-then-not-has_room g c =
       same = refl;
     }
 
-pub returns-in_err-of_oks : goal.returns-in_err-of_oks
-returns-in_err-of_oks g c =
+pub returns-in_err-of_oks-in-Ok : goal.returns-in_err-of_oks-in-Ok
+returns-in_err-of_oks-in-Ok g c =
     let s = c.args.self.now in
     let room = room_in g.C.GrowWords g.V.GrowWords s.indexes in
     let lo = g.S.Payload.limit s.oks in
@@ -47,7 +47,7 @@ returns-in_err-of_oks g c =
     let xs = merge bs os es in
     let ys = xs ++ (x ∷ []) in
     let inner = c.push.ensures in
-    let side = c.in_err-of_oks.ensures in
+    let side = c.in_err-of_oks-in-Ok.ensures in
     let p = err_from_is_err_and c.from_residual.result c.from_residual.ensures.1 in
     let fine = held_answer le ae es (g.met.T.Payload.asks s.errs es) c.held.ensures in
     let told = push_by_oks room lo le ao ae bs os es c.requires.ones c.requires.zeros c.len-n.result c.len-n.ensures x (c.in-Ok.v ∷ []) [] (ap (λ x. oks (x ∷ [])) c.in-Ok.is) (ap (λ x. errs (x ∷ [])) c.in-Ok.is) c.if-not-has_room.ensures fine _ c.push.result side inner.answer in
@@ -61,8 +61,8 @@ returns-in_err-of_oks g c =
       same = on_refusal c.from_residual.result (ap (λ q. record { indexes = s.indexes; oks = q; errs = s.errs }) same);
     }
 
-pub returns-in_err-of_errs : goal.returns-in_err-of_errs
-returns-in_err-of_errs g c =
+pub returns-in_err-of_errs-in-Err : goal.returns-in_err-of_errs-in-Err
+returns-in_err-of_errs-in-Err g c =
     let s = c.args.self.now in
     let room = room_in g.C.GrowWords g.V.GrowWords s.indexes in
     let lo = g.S.Payload.limit s.oks in
@@ -76,8 +76,8 @@ returns-in_err-of_errs g c =
     let xs = merge bs os es in
     let ys = xs ++ (x ∷ []) in
     let inner = c.push-in-Err.ensures in
-    let side = c.in_err-of_errs.ensures in
-    let p = err_from_is_err_and c.from_residual-in_err-of_errs.result c.from_residual-in_err-of_errs.ensures.1 in
+    let side = c.in_err-of_errs-in-Err.ensures in
+    let p = err_from_is_err_and c.from_residual-in_err-of_errs-in-Err.result c.from_residual-in_err-of_errs-in-Err.ensures.1 in
     let fine = held_answer lo ao os (g.met.S.Payload.asks s.oks os) c.held-in-Err.ensures in
     let told = push_by_errs room lo le ao ae bs os es c.requires.ones c.requires.zeros c.len-n.result c.len-n.ensures x [] (c.in-Err.w ∷ []) (ap (λ x. oks (x ∷ [])) c.in-Err.is) (ap (λ x. errs (x ∷ [])) c.in-Err.is) c.if-not-has_room.ensures fine _ c.push-in-Err.result side inner.answer in
     let same : c.push-in-Err.new.self ≡ s.errs = err_refused (c.push-in-Err.new.self ≡ s.errs) _ c.push-in-Err.result side inner.same in
@@ -87,11 +87,11 @@ returns-in_err-of_errs g c =
       list = ap (λ q. merge bs os (g.T.Column.items q)) same ∙ grown_by (limited room lo le) (asked room ao ae) xs ys _ (limit_asks room lo le ao ae (g.met.S.Payload.asks s.oks) (g.met.T.Payload.asks s.errs) xs ys) told;
       limit = ap (limited room lo) inner.limit;
       ask = ap (asked room ao) inner.ask;
-      same = on_refusal c.from_residual-in_err-of_errs.result (ap (λ q. record { indexes = s.indexes; oks = s.oks; errs = q }) same);
+      same = on_refusal c.from_residual-in_err-of_errs-in-Err.result (ap (λ q. record { indexes = s.indexes; oks = s.oks; errs = q }) same);
     }
 
-pub returns-in_ok-of_oks : goal.returns-in_ok-of_oks
-returns-in_ok-of_oks g c =
+pub returns-in_ok-of_oks-in-Ok : goal.returns-in_ok-of_oks-in-Ok
+returns-in_ok-of_oks-in-Ok g c =
     let s = c.args.self.now in
     let room = room_in g.C.GrowWords g.V.GrowWords s.indexes in
     let lo = g.S.Payload.limit s.oks in
@@ -107,7 +107,7 @@ returns-in_ok-of_oks g c =
     let ys = xs ++ (x ∷ []) in
     let inner = c.push.ensures in
     let marks = c.push_bit.ensures in
-    let side = c.in_ok-of_oks.ensures in
+    let side = c.in_ok-of_oks-in-Ok.ensures in
     let got = sym (ok_side tt c.push.result side) ∙ inner.answer in
     let law = g.met.S.Payload.asks s.oks in
     let more : g.S.Column.items c.push.new.self ≡ os ++ (v ∷ []) = inner.list ∙ sym (grown_by lo ao os (os ++ (v ∷ [])) (Ok tt) (law os (os ++ (v ∷ []))) got) in
@@ -132,8 +132,8 @@ returns-in_ok-of_oks g c =
       same = tt;
     }
 
-pub returns-in_ok-of_errs : goal.returns-in_ok-of_errs
-returns-in_ok-of_errs g c =
+pub returns-in_ok-of_errs-in-Err : goal.returns-in_ok-of_errs-in-Err
+returns-in_ok-of_errs-in-Err g c =
     let s = c.args.self.now in
     let room = room_in g.C.GrowWords g.V.GrowWords s.indexes in
     let lo = g.S.Payload.limit s.oks in
@@ -149,7 +149,7 @@ returns-in_ok-of_errs g c =
     let ys = xs ++ (x ∷ []) in
     let inner = c.push-in-Err.ensures in
     let marks = c.push_bit-in-Err.ensures in
-    let side = c.in_ok-of_errs.ensures in
+    let side = c.in_ok-of_errs-in-Err.ensures in
     let got = sym (err_side tt c.push-in-Err.result side) ∙ inner.answer in
     let law = g.met.T.Payload.asks s.errs in
     let more : g.T.Column.items c.push-in-Err.new.self ≡ es ++ (w ∷ []) = inner.list ∙ sym (grown_by le ae es (es ++ (w ∷ [])) (Ok tt) (law es (es ++ (w ∷ []))) got) in
