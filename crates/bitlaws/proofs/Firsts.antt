@@ -1,14 +1,14 @@
 -- The first one at or after a place.
-use Rattle.std.proofs.Common.{◌≡◌, ℕ, zero, suc, ◌+◌, ◌-◌, ◌*◌, ◌/◌, ◌%◌, ◌^◌, ◌<◌, ◌≤◌, Bool, true, false, cond, eqb, ◌⊎◌, List, [], ◌∷◌, ◌++◌, length, get_or, take, Some, None, Option, sym, refl, ap, ◌∙◌, subst, ap₂, inl, inr, ⊎_elim, lt_of_lt_of_le, add-zero, add_assoc, mod-eq_of_lt, pow-suc, zero-add, div-one, arith, lit<, pow_mono}
+use Rattle.std.proofs.Common.{◌≡◌, ℕ, zero, suc, ◌+◌, ◌-◌, ◌*◌, ◌/◌, ◌%◌, ◌^◌, ◌<◌, ◌≤◌, Bool, true, false, cond, eqb, List, ◌∷◌, length, get_or, Some, None, sym, refl, ap, ◌∙◌, subst, ap₂, ⊎_elim, lt_of_lt_of_le, add-zero, add_assoc, pow-suc, zero-add, div-one, arith, lit<, pow_mono}
 use native.Mathlib.Nat.{div-eq_of_lt, div-add-mod}
 use lib.Count.{ones, under, count_trailing_zeros}
 use lib.Pow.{split}
-use Rattle.std.proofs.lemmas.Nat.{mod_below, pow_pos, shr-shr, shr_le, div-add-mod', div_below}
+use Rattle.std.proofs.lemmas.Nat.{mod_below, shr-shr, shr_le, div-add-mod', div_below}
 use Rattle.std.proofs.lemmas.List.{take_all, get_or_past, get_or_default}
 use Rattle.std.proofs.lemmas.Bool.{true≢false, eqb-true, eq-eqb, cases_lt, cases_Bool}
 use Rattle.bitlaws.specs.Bits.{low_bits, bits_of, ones_among, rank_of, after, select_of, first_from, Held}
 use Rattle.bitlaws.specs.Laws.{Selected, FirstFinds, FirstLacks}
-use Rattle.bitlaws.proofs.Words.{ones_zero, length_low, length_bits, rank_place, rank_word, rank_none}
+use Rattle.bitlaws.proofs.Words.{ones_zero, length_low, length_bits, rank_place, rank_word}
 use Rattle.bitlaws.proofs.Ranks.{rank_step, rank_rises_lem}
 use Rattle.bitlaws.proofs.Selects.{select_some, select_none, select_place, select_few}
 use Rattle.bitlaws.proofs.InWord.{low_bit, low_rank, ones_split, ones_all, selected_in}

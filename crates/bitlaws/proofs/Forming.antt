@@ -1,10 +1,9 @@
 -- The words, tail and counts that are worked out from bits.
-use Rattle.std.proofs.Common.{◌≡◌, ℕ, zero, suc, ◌+◌, ◌-◌, ◌*◌, ◌/◌, ◌%◌, ◌^◌, ◌<◌, ◌≤◌, min, Bool, true, false, cond, eqb, List, [], ◌∷◌, ◌++◌, length, get_or, take, drop, sym, refl, ap, ◌∙◌, subst, pow-suc, arith, length-drop, length-take, take-add, pow_mono}
-use Rattle.std.proofs.lemmas.List.{take-append-drop, drop-drop, length-take-le}
-use Rattle.bitlaws.specs.Bits.{most_bits, low_bits, word_bits, bits_of, rank_of, Words64, Tailed, Held, Counted, Sound}
+use Rattle.std.proofs.Common.{◌≡◌, ℕ, zero, suc, ◌+◌, ◌*◌, ◌/◌, ◌%◌, ◌^◌, ◌<◌, ◌≤◌, Bool, true, false, cond, eqb, List, [], ◌∷◌, length, get_or, take, drop, sym, refl, ap, ◌∙◌, subst, pow-suc, arith, length-drop, length-take, take-add, pow_mono}
+use Rattle.std.proofs.lemmas.List.{take-append-drop, length-take-le}
+use Rattle.bitlaws.specs.Bits.{most_bits, low_bits, word_bits, bits_of, rank_of, Words64, Tailed, Held, Counted}
 use Rattle.bitlaws.specs.Forms.{bits_value, words_from, full_words, tail_word, tail_bits, counts_from, counts_of}
 use Rattle.bitlaws.specs.Laws.{FormHolds}
-use Rattle.bitlaws.proofs.Words.{length_words, length_bits}
 
 -- a number, one digit on
 digit : (b : Bool) (v : ℕ) → eqb ((cond b 1 0 + 2 * v) % 2) 1 ≡ b

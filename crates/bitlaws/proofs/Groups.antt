@@ -1,11 +1,11 @@
 -- A group of bits behind a tail: n bits of the number a above the k bits of t.
-use Rattle.std.proofs.Common.{◌≡◌, ℕ, zero, suc, ◌+◌, ◌-◌, ◌*◌, ◌/◌, ◌%◌, ◌^◌, ◌<◌, ◌≤◌, Bool, true, false, cond, eqb, List, [], ◌∷◌, ◌++◌, length, get_or, take, sym, refl, ap, ◌∙◌, subst, ap₂, ⊎_elim, lt_of_lt_of_le, add-zero, mod-eq_of_lt, arith, lit<, pow_mono}
+use Rattle.std.proofs.Common.{◌≡◌, ℕ, zero, suc, ◌+◌, ◌-◌, ◌*◌, ◌/◌, ◌%◌, ◌^◌, ◌<◌, ◌≤◌, Bool, true, false, cond, eqb, List, [], ◌∷◌, ◌++◌, length, take, sym, refl, ap, ◌∙◌, subst, ap₂, ⊎_elim, lt_of_lt_of_le, add-zero, mod-eq_of_lt, arith, pow_mono}
 use native.Mathlib.Nat.{div-eq_of_lt}
 use lib.Bits.{bit_and, and_mask, bit_or, block_half, block_odd, or_shifted_r}
 use lib.Pow.{high, low, split}
-use Rattle.std.proofs.lemmas.Nat.{one_shl, pow-add, pow_pos, shr-shr, mod-pow-add, shr_below, mod_below, mul-add-lt}
+use Rattle.std.proofs.lemmas.Nat.{one_shl, pow-add, pow_pos, shr-shr, mod-pow-add, shr_below, mul-add-lt}
 use Rattle.std.proofs.lemmas.List.{append_assoc, append-nil, get_or_append_left, get_or_push, get_or_past, length_push}
-use Rattle.std.proofs.lemmas.Bool.{cases_lt, cases_order}
+use Rattle.std.proofs.lemmas.Bool.{cases_order}
 use Rattle.bitlaws.specs.Bits.{low_bits, word_bits, bits_of, Words64}
 use Rattle.bitlaws.proofs.Words.{words_append, low_split, take_low}
 

@@ -1,9 +1,9 @@
 -- Equal bits are held in equal words.
-use Rattle.std.proofs.Common.{◌≡◌, ℕ, zero, suc, ◌+◌, ◌-◌, ◌*◌, ◌/◌, ◌%◌, ◌^◌, ◌<◌, ◌≤◌, Bool, true, false, cond, eqb, ◌⊎◌, List, [], ◌∷◌, ◌++◌, length, get_or, take, drop, sym, refl, ap, ◌∙◌, subst, ap₂, inl, inr, ⊎_elim, mul_comm, pow-suc, div-one, arith, lit<}
+use Rattle.std.proofs.Common.{◌≡◌, ℕ, zero, suc, ◌+◌, ◌*◌, ◌/◌, ◌%◌, ◌^◌, ◌<◌, Bool, eqb, List, ◌∷◌, length, get_or, take, drop, sym, ap, ◌∙◌, subst, ⊎_elim, pow-suc, div-one, arith, lit<}
 use Rattle.std.proofs.lemmas.Nat.{mod_below, div-add-mod', div_below}
 use Rattle.std.proofs.lemmas.List.{ext_get_or, get_or_default, drop_at}
 use Rattle.std.proofs.lemmas.Bool.{eq-eqb, eqb-true, cases_eq}
-use Rattle.bitlaws.specs.Bits.{low_bits, word_bits, bits_of, rank_of, Held, Counted, Sound}
+use Rattle.bitlaws.specs.Bits.{low_bits, word_bits, bits_of, rank_of, Held, Counted}
 use Rattle.bitlaws.specs.Laws.{OneHolding}
 use Rattle.bitlaws.proofs.Words.{length_bits, length_words}
 use Rattle.bitlaws.proofs.Ranges.{range_one}

@@ -1,7 +1,7 @@
 -- What rank means.
-use Rattle.std.proofs.Common.{◌≡◌, ℕ, zero, suc, ◌+◌, ◌-◌, ◌<◌, ◌≤◌, Bool, true, false, cond, ◌⊎◌, List, [], ◌∷◌, ◌++◌, length, get_or, take, sym, refl, ap, ◌∙◌, subst, ap₂, inl, inr, ⊎_elim, not-suc-le-zero, add-zero, add-one, arith}
-use Rattle.std.proofs.lemmas.List.{append-nil, take_more, take_all, get_or_past, get_or_push, get_or_append_left, length_push}
-use Rattle.std.proofs.lemmas.Bool.{cases_lt, cases_Bool, cases_eq, true≢false}
+use Rattle.std.proofs.Common.{◌≡◌, ℕ, zero, suc, ◌+◌, ◌-◌, ◌<◌, ◌≤◌, Bool, true, false, cond, List, [], ◌∷◌, ◌++◌, length, get_or, take, sym, refl, ap, ◌∙◌, subst, ⊎_elim, not-suc-le-zero, add-zero, add-one, arith}
+use Rattle.std.proofs.lemmas.List.{take_more, take_all, get_or_past, get_or_push, get_or_append_left, length_push}
+use Rattle.std.proofs.lemmas.Bool.{cases_lt, cases_Bool, true≢false}
 use Rattle.bitlaws.specs.Bits.{ones_among, rank_of}
 use Rattle.bitlaws.specs.Laws.{OnesBelow, RankCounts, RankSteps, RankRises}
 use Rattle.bitlaws.proofs.Words.{ones_among_append, rank_none}

@@ -1,11 +1,10 @@
 -- Where the bits of words and a tail stand, and the ones among them.
-use Rattle.std.proofs.Common.{◌≡◌, ℕ, zero, suc, ◌+◌, ◌-◌, ◌*◌, ◌/◌, ◌%◌, ◌^◌, ◌<◌, ◌≤◌, Bool, true, false, cond, eqb, ltb, ◌⊎◌, List, [], ◌∷◌, ◌++◌, length, get_or, take, drop, sym, refl, ap, ◌∙◌, subst, ap₂, inl, inr, ⊎_elim, le_of_suc-le-suc, not-suc-le-zero, add-zero, add_assoc, mod-lt, mod-eq_of_lt, add_comm, pow-suc, zero-add, mul-suc, div-one, add-one, one-add, arith, lit<, length-append, shr-shr}
+use Rattle.std.proofs.Common.{◌≡◌, ℕ, zero, suc, ◌+◌, ◌*◌, ◌/◌, ◌%◌, ◌^◌, ◌<◌, ◌≤◌, Bool, true, false, cond, eqb, List, [], ◌∷◌, ◌++◌, length, get_or, take, drop, sym, refl, ap, ◌∙◌, ap₂, ⊎_elim, le_of_suc-le-suc, not-suc-le-zero, add-zero, add_assoc, mod-lt, mod-eq_of_lt, add_comm, zero-add, mul-suc, div-one, add-one, one-add, arith, lit<, length-append, shr-shr}
 use native.Mathlib.Nat.{div-add-mod, mod-one}
 use lib.Seq.{take-append-le, take-append-add, split_at}
-use lib.Bits.{block_half, block_odd}
-use lib.Pow.{mod-pow-add, high, low}
+use lib.Pow.{mod-pow-add}
 use lib.Count.{ones, ones_in, ones_cat}
-use Rattle.std.proofs.lemmas.List.{append-nil, append_assoc, append_cancel_left, length-take, length-take-le, take_more, same_from_push, get_or_past, get_or_default, take_all as take_whole}
+use Rattle.std.proofs.lemmas.List.{append-nil, append_assoc, length-take, length-take-le, take_more, same_from_push, get_or_past, get_or_default, take_all as take_whole}
 use Rattle.std.proofs.lemmas.Bool.{cases_lt}
 use Rattle.bitlaws.specs.Bits.{low_bits, word_bits, bits_of, ones_among, rank_of}
 

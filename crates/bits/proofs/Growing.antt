@@ -1,12 +1,10 @@
 -- What the growing calls answer, and what their columns then hold.
-use Rattle.std.proofs.Common.{◌≡◌, ℕ, ◌+◌, ◌-◌, ◌*◌, ◌/◌, ◌%◌, ◌^◌, ◌<◌, ◌≤◌, Bool, true, false, cond, ◌&&◌, eqb, ltb, leb, List, [], ◌∷◌, ◌++◌, length, get_or, Ok, Err, sym, refl, ap, ◌∙◌, subst, ap₂, subst₂, ⊎_elim, arith, lit<}
+use Rattle.std.proofs.Common.{◌≡◌, ℕ, ◌+◌, ◌-◌, ◌*◌, ◌/◌, ◌%◌, ◌^◌, ◌<◌, ◌≤◌, Bool, true, false, ◌&&◌, eqb, ltb, leb, List, [], ◌∷◌, ◌++◌, length, Ok, sym, refl, ap, ◌∙◌, subst, ap₂, subst₂, ⊎_elim, arith, lit<}
 use native.Mathlib.Nat.{div-eq_of_lt}
 use Rattle.std.proofs.lemmas.Nat.{mod_below, pow_pos, le-div}
 use Rattle.std.proofs.lemmas.List.{length_push}
 use Rattle.std.proofs.lemmas.Bool.{and_parts, leb-true, ltb-true, eq-eqb, ne_eqb, le-leb, lt-ltb, le-ltb, lt-leb, cases_lt}
-use Rattle.refusals.specs.declared.fault.Fault.TheVariants.{Full}
-use Rattle.bitlaws.specs.Bits.{most_bits, low_bits, word_bits, bits_of, Words64, Tailed, Held}
-use Rattle.bitlaws.proofs.Words.{length_bits}
+use Rattle.bitlaws.specs.Bits.{most_bits, low_bits, word_bits, bits_of, Words64, Held}
 use mir.Val.{bool_byte}
 use Rattle.bitlaws.proofs.Groups.{low_one, bits_carry, bits_group, fit_push, joined_lt, rest_lt}
 use Rattle.bits.specs.Columns.{fits_words, fits, push_answer, push_list, lawful_group}

@@ -1,5 +1,5 @@
 -- The k-th one of a word, half by half.
-use Rattle.std.proofs.Common.{◌≡◌, ℕ, zero, suc, ◌+◌, ◌-◌, ◌*◌, ◌/◌, ◌%◌, ◌^◌, ◌<◌, ◌≤◌, Bool, true, eqb, sym, refl, ap, ◌∙◌, subst, ap₂, ⊎_elim, lt_of_lt_of_le, add-zero, add_assoc, div-one, arith, lit<, pow_mono}
+use Rattle.std.proofs.Common.{◌≡◌, ℕ, ◌+◌, ◌-◌, ◌*◌, ◌/◌, ◌%◌, ◌^◌, ◌<◌, ◌≤◌, eqb, sym, ap, ◌∙◌, subst, ⊎_elim, lt_of_lt_of_le, add-zero, div-one, arith, lit<, pow_mono}
 use native.Mathlib.Nat.{mod-one, div-eq_of_lt}
 use lib.Bits.{bit_and}
 use lib.Count.{ones, ones-le}

@@ -1,5 +1,5 @@
 -- What the reading calls answer, over the words and the tail.
-use Rattle.std.proofs.Common.{◌≡◌, ℕ, ◌+◌, ◌-◌, ◌*◌, ◌/◌, ◌%◌, ◌^◌, ◌<◌, ◌≤◌, Bool, true, false, cond, eqb, ltb, leb, List, [], ◌∷◌, ◌++◌, length, get_or, Ok, Err, Option, sym, refl, ap, ◌∙◌, ap₂, arith}
+use Rattle.std.proofs.Common.{◌≡◌, ℕ, ◌+◌, ◌-◌, ◌*◌, ◌/◌, ◌%◌, ◌^◌, ◌<◌, ◌≤◌, Bool, false, eqb, List, length, get_or, Ok, Option, sym, ap, ◌∙◌, ap₂, arith}
 use lib.Bits.{bit_and, and_mask}
 use lib.Count.{ones}
 use Rattle.std.proofs.lemmas.Bool.{lt-ltb, le-leb}

@@ -1,5 +1,5 @@
 -- What the calls of a bit column answer, over the list of its bits.
-use Rattle.std.specs.Prelude.{ℕ, ◌+◌, ◌-◌, ◌/◌, ◌^◌, Bool, false, cond, ◌&&◌, List, [], ◌∷◌, ◌++◌, length, Ok, Err, Option, Result, nat_le, nat_lt, slice_index_or, slice_range}
+use Rattle.std.specs.Prelude.{ℕ, ◌/◌, ◌^◌, Bool, false, cond, ◌&&◌, List, ◌++◌, length, Ok, Err, Option, Result, nat_le, nat_lt, slice_index_or, slice_range}
 use Rattle.refusals.specs.declared.fault.Fault.{Fault}
 use Rattle.refusals.specs.declared.fault.Fault.TheVariants.{Outside, Past, Full, Group}
 use Rattle.words.specs.declared.reading.ReadWords.{Ghosts}

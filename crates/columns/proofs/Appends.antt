@@ -1,7 +1,7 @@
 -- What an append answers and leaves, case by case.
-use Rattle.std.proofs.Common.{◌≡◌, ℕ, ◌-◌, ◌<◌, ◌≤◌, Bool, true, false, cond, ltb, leb, List, [], ◌∷◌, ◌++◌, length, take, drop, is_ok, Ok, Err, Result, sym, refl, ap, ◌∙◌, append-nil, arith, le-ltb, lt-ltb, le-leb, leb-true}
+use Rattle.std.proofs.Common.{◌≡◌, ℕ, ◌<◌, ◌≤◌, Bool, true, false, ltb, leb, List, ◌++◌, length, is_ok, Ok, Err, Result, sym, refl, ap, ◌∙◌, append-nil, le-ltb, lt-ltb, le-leb, leb-true}
 use borrow.Author.Tests.{lt-leb}
-use Rattle.columns.specs.Plain.{got, grown, part, append_answer, append_list}
+use Rattle.columns.specs.Plain.{grown, part, append_answer, append_list}
 use Rattle.columns.proofs.Lists.{part_none}
 
 pub ok_answer : {F : Type 0} (r : Result (Unit {0}) F) → is_ok r ≡ true → r ≡ Ok tt

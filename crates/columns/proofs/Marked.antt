@@ -1,12 +1,12 @@
 -- What a sound bit column says of its marks.
-use Rattle.std.proofs.Common.{◌≡◌, ℕ, ◌+◌, ◌-◌, ◌*◌, ◌<◌, ◌≤◌, Bool, true, false, cond, ltb, leb, List, [], ◌∷◌, ◌++◌, length, get_or, take, drop, Ok, Err, Result, sym, refl, ap, ◌∙◌, subst, arith, length-drop, length-take, ltb-false, ltb-true, leb-false, leb-true}
+use Rattle.std.proofs.Common.{◌≡◌, ℕ, ◌+◌, ◌-◌, ◌<◌, ◌≤◌, Bool, true, false, cond, ltb, leb, List, ◌++◌, length, get_or, take, drop, Ok, Err, sym, refl, ap, ◌∙◌, subst, arith, length-drop, length-take, ltb-false, ltb-true, leb-false, leb-true}
 use Rattle.std.proofs.lemmas.List.{take-append-drop, take_all}
 use Rattle.refusals.specs.declared.fault.Fault.{Fault}
 use Rattle.refusals.specs.declared.fault.Fault.TheVariants.{Outside}
 use Rattle.words.specs.declared.reading.ReadWords.{Ghosts}
 use Rattle.bitlaws.specs.Bits.{most_bits, rank_of, ones_among}
 use Rattle.bitlaws.proofs.Words.{length_bits, ones_among_append, rank_le, rank_under}
-use Rattle.bitlaws.proofs.Ranks.{rank_step, rank_rises_lem}
+use Rattle.bitlaws.proofs.Ranks.{rank_step}
 use Rattle.columns.specs.Plain.{part}
 use Rattle.columns.proofs.Lists.{take_range}
 use Rattle.bits.specs.declared.rank_select.RankSelect.{RankSelect}

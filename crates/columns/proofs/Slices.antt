@@ -1,7 +1,7 @@
 -- Stored forms that are made of the forms of parts, and the form of marks.
-use Rattle.std.proofs.Common.{◌≡◌, ℕ, zero, suc, ◌+◌, ◌-◌, ◌*◌, ◌/◌, ◌%◌, ◌<◌, ◌≤◌, min, Bool, true, ltb, List, [], ◌∷◌, ◌++◌, length, get_or, sym, refl, ap, ◌∙◌, arith, lt-ltb}
+use Rattle.std.proofs.Common.{◌≡◌, ℕ, zero, suc, ◌-◌, ◌/◌, ◌%◌, ◌<◌, ◌≤◌, min, Bool, true, ltb, List, [], ◌∷◌, ◌++◌, length, get_or, sym, refl, ap, ◌∙◌, arith, lt-ltb}
 use Rattle.std.proofs.lemmas.List.{get_or_append_left, get_or-append_right}
-use Rattle.store.specs.Layout.{Slice, up, Formed, AllFormed}
+use Rattle.store.specs.Layout.{Slice, Formed, AllFormed}
 use Rattle.bitlaws.specs.Bits.{most_bits, bits_of}
 use Rattle.bitlaws.specs.Forms.{full_words, tail_word, tail_bits, counts_of}
 use Rattle.bitlaws.proofs.Forming.{form_bits, length_from, length_counts}

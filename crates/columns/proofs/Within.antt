@@ -1,10 +1,10 @@
 -- Lists within a capacity.
-use Rattle.std.proofs.Common.{◌≡◌, ℕ, suc, ◌+◌, ◌-◌, ◌<◌, ◌≤◌, Bool, true, false, cond, ltb, leb, List, [], ◌∷◌, ◌++◌, length, is_ok, Ok, Err, Result, sym, refl, ap, ◌∙◌, arith, length-append, ltb-false, ltb-true, le-leb, leb-true}
+use Rattle.std.proofs.Common.{◌≡◌, ℕ, ◌+◌, ◌-◌, ◌<◌, ◌≤◌, Bool, true, false, ltb, List, [], ◌∷◌, ◌++◌, length, is_ok, Ok, Err, sym, refl, ap, ◌∙◌, arith, length-append, ltb-false, ltb-true, le-leb, leb-true}
 use borrow.Author.Tests.{lt-leb}
 use Rattle.refusals.specs.Faults.{number_of}
 use Rattle.refusals.specs.declared.fault.Fault.{Fault}
 use Rattle.refusals.specs.declared.fault.Fault.TheVariants.{Full}
-use Rattle.columns.specs.Plain.{grown, part, within, within_answer, append_answer}
+use Rattle.columns.specs.Plain.{part, within, within_answer, append_answer}
 use Rattle.columns.proofs.Lists.{length_part}
 use Rattle.columns.proofs.Appends.{answer_past, answer_in}
 

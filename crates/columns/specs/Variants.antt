@@ -1,6 +1,6 @@
 -- Lists of entries of two variants: the marks that tell them apart, what the entries of one variant hold,
 -- and how the marks are stored.
-use Rattle.std.specs.Prelude.{◌≡◌, ℕ, Bool, List, [], ◌∷◌, length, Some, None, Ok, Err, Option, Result}
+use Rattle.std.specs.Prelude.{ℕ, Bool, List, [], ◌∷◌, Some, None, Ok, Err, Option, Result}
 use Rattle.store.specs.Layout.{Slice}
 use Rattle.bitlaws.specs.Forms.{full_words, tail_word, tail_bits, counts_of}
 use Rattle.columns.specs.Kinds.{words_slice}

@@ -1,5 +1,5 @@
 -- Where the answers of a column lie.
-use Rattle.std.proofs.Common.{◌≡◌, ℕ, ◌<◌, ◌≤◌, Bool, true, false, cond, leb, List, length, Some, Ok, Err, Option, sym, refl, ap, ◌∙◌, ⊎_elim, arith}
+use Rattle.std.proofs.Common.{◌≡◌, ℕ, ◌<◌, ◌≤◌, Bool, true, false, cond, leb, List, length, Some, Ok, Err, Option, sym, ◌∙◌, ⊎_elim, arith}
 use Rattle.refusals.specs.declared.fault.Fault.{Fault}
 use Rattle.refusals.specs.declared.fault.Fault.TheVariants.{Outside}
 use Rattle.bitlaws.specs.Bits.{rank_of, select_of, first_from}

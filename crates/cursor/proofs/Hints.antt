@@ -1,10 +1,10 @@
 -- The first one of a word at or above bit r, by the word without its r lowest bits.
-use Rattle.std.proofs.Common.{◌≡◌, ℕ, zero, suc, ◌+◌, ◌-◌, ◌*◌, ◌/◌, ◌%◌, ◌^◌, ◌<◌, ◌≤◌, Bool, true, false, eqb, List, length, get_or, Some, None, Ok, Option, Result, sym, refl, ap, ◌∙◌, subst, ap₂, ⊎_elim, add-zero, add_comm, pow-suc, zero-mul, add-one, one-add, arith, lit<, pow_pos, pow_mono}
-use native.Mathlib.Nat.{mod-one, mod_self, zero-mod, div-eq_of_lt}
+use Rattle.std.proofs.Common.{◌≡◌, ℕ, zero, suc, ◌+◌, ◌-◌, ◌*◌, ◌/◌, ◌%◌, ◌^◌, ◌<◌, ◌≤◌, Bool, false, eqb, List, length, get_or, Some, None, Ok, Option, Result, sym, refl, ap, ◌∙◌, subst, ap₂, ⊎_elim, add-zero, add_comm, add-one, arith, pow_pos, pow_mono}
+use native.Mathlib.Nat.{mod-one, mod_self, zero-mod}
 use lib.Bits.{bit_and, and_block, and_self, and_mask}
 use lib.Count.{ones, under, count_trailing_zeros}
-use lib.Pow.{high, low, split, mod-mod-pow, shr_mod}
-use Rattle.std.proofs.lemmas.Nat.{mod_below, shr-shr, mod-pow-add, shl-shr, pow_below}
+use lib.Pow.{high, low, split, mod-mod-pow}
+use Rattle.std.proofs.lemmas.Nat.{mod_below, shr-shr, mod-pow-add, pow_below}
 use Rattle.std.proofs.lemmas.List.{get_or_past, take_all}
 use Rattle.std.proofs.lemmas.Bool.{true≢false, eqb-true, eq-eqb, cases_lt}
 use Rattle.bitlaws.specs.Bits.{low_bits, bits_of, ones_among, rank_of, select_of, first_from, Held}

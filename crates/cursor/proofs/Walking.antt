@@ -1,13 +1,12 @@
 -- What whole walks come to.
-use Rattle.std.proofs.Common.{◌≡◌, ℕ, zero, suc, ◌+◌, ◌-◌, ◌*◌, ◌/◌, ◌<◌, ◌≤◌, max, Bool, true, false, cond, ltb, ◌⊎◌, List, [], ◌∷◌, ◌++◌, map, length, get_or, take, drop, is_some, Some, None, Option, sym, refl, ap, ◌∙◌, subst, ap₂, inl, inr, ⊎_elim, not-suc-le-zero, add-zero, add-one, arith}
+use Rattle.std.proofs.Common.{◌≡◌, ℕ, zero, suc, ◌+◌, ◌<◌, ◌≤◌, max, Bool, true, false, cond, List, [], ◌∷◌, ◌++◌, map, length, get_or, drop, is_some, Some, None, Option, sym, refl, ap, ◌∙◌, subst, ap₂, ⊎_elim, not-suc-le-zero, add-zero, add-one, arith}
 use Rattle.std.proofs.lemmas.List.{drop_more, drop_all, take_all}
 use Rattle.std.proofs.lemmas.Bool.{lt-ltb, le-ltb, cases_lt, false≢true}
 use Rattle.bitlaws.specs.Bits.{ones_among, rank_of, select_of, first_from}
-use Rattle.bitlaws.specs.Laws.{Selected}
 use Rattle.bitlaws.proofs.Words.{rank_none}
 use Rattle.bitlaws.proofs.Ranks.{rank_step, rank_rises_lem}
 use Rattle.bitlaws.proofs.Selects.{select_place, select_few, select_none}
-use Rattle.cursor.specs.Moves.{Spot, after_one, behind_one, next_one, step, to_pos, to_rank, last_word}
+use Rattle.cursor.specs.Moves.{Spot, after_one, behind_one, step, to_pos, last_word}
 use Rattle.cursor.specs.Walks.{fresh, steps, next_ones, StepsRead, OnesInOrder, Move, One, Step, Pos, Rank, led, Inside, walked, AllInside, CountsBelow}
 
 step_on : (bs : List Bool) (p c : ℕ) → p < length bs → step bs (p, c) ≡ (Some (get_or bs p false), (p + 1, c + cond (get_or bs p false) 1 0))

@@ -1,5 +1,5 @@
 -- What the text of a plan says of its doors.
-use Rattle.std.specs.Prelude.{◌≡◌, ℕ, ◌<◌, Bool, true, false, cond, ◌||◌, List, [], ◌∷◌, ◌++◌, length, take, Ok, Err, Result, ◌==◌, slice_index}
+use Rattle.std.specs.Prelude.{◌≡◌, ℕ, Bool, true, false, cond, ◌||◌, List, [], ◌∷◌, ◌++◌, take, Ok, Err, Result, ◌==◌, slice_index}
 use Rattle.doors.specs.declared.plan.Mark.{Mark}
 use Rattle.doors.specs.declared.plan.Mark.TheVariants.{Door, Break, Strange}
 use Rattle.doors.specs.declared.plan.Trouble.{Trouble}

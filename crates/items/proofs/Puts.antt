@@ -1,7 +1,7 @@
 -- Putting one item, as a column sees it.
-use Rattle.std.proofs.Common.{◌≡◌, ℕ, ◌+◌, ◌<◌, ◌≤◌, Bool, true, false, cond, ltb, leb, List, [], ◌∷◌, ◌++◌, length, sym, refl, ap, ◌∙◌, arith, ltb-false, ltb-true, le-leb}
+use Rattle.std.proofs.Common.{◌≡◌, ℕ, ◌≤◌, Bool, true, false, ltb, List, [], ◌∷◌, ◌++◌, length, sym, refl, ◌∙◌, arith, ltb-false, ltb-true, le-leb}
 use borrow.Author.Tests.{lt-leb}
-use Rattle.columns.specs.Kinds.{Each, Lawful, most_items}
+use Rattle.columns.specs.Kinds.{Lawful, most_items}
 use Rattle.columns.specs.Plain.{grown, within, within_answer}
 use Rattle.columns.proofs.Lists.{lawful_append}
 use Rattle.columns.proofs.Within.{one_more}

@@ -1,13 +1,12 @@
 -- One more entry of a column of options.
-use Rattle.std.proofs.Common.{◌≡◌, ℕ, ◌+◌, Bool, true, false, List, [], ◌∷◌, ◌++◌, length, is_ok, Some, None, Ok, Err, Option, Result, sym, refl, ap, ◌∙◌, append-nil, arith, length-append}
+use Rattle.std.proofs.Common.{◌≡◌, ℕ, ◌+◌, Bool, true, false, List, [], ◌∷◌, ◌++◌, length, is_ok, Ok, Err, Option, Result, sym, ap, ◌∙◌, append-nil, arith, length-append}
 use Rattle.std.specs.Result.{result_map_both}
 use Rattle.refusals.specs.declared.fault.Fault.TheVariants.{Full}
 use Rattle.bitlaws.specs.Bits.{ones_among}
 use Rattle.columns.proofs.Appends.{ok_answer}
-use Rattle.options.specs.declared.fault.OptionsFault.{OptionsFault}
 use Rattle.options.specs.declared.fault.OptionsFault.TheVariants.{Own, Somes}
 use Rattle.options.specs.Entries.{merge, somes, some_marks}
-use Rattle.options.specs.Limits.{limited, asked}
+use Rattle.options.specs.Limits.{asked}
 use Rattle.options.specs.EntriesLemmas.{merge_length, marks_more, somes_more, somes_merge, merged, matched}
 use Rattle.options.specs.Limiting.{asked_over, asked_within}
 

@@ -1,5 +1,5 @@
 -- A range of entries of a column of options, added to another.
-use Rattle.std.proofs.Common.{◌≡◌, ℕ, ◌+◌, ◌-◌, ◌<◌, ◌≤◌, Bool, true, false, ltb, List, [], ◌∷◌, ◌++◌, length, is_ok, Ok, Err, Option, Result, sym, refl, ap, ◌∙◌, subst, arith, length-append, ltb-false, ltb-true}
+use Rattle.std.proofs.Common.{◌≡◌, ℕ, ◌+◌, ◌-◌, ◌<◌, ◌≤◌, Bool, true, false, ltb, List, ◌++◌, length, is_ok, Ok, Err, Result, sym, refl, ap, ◌∙◌, arith, length-append, ltb-false, ltb-true}
 use Rattle.std.specs.Result.{result_map_both}
 use Rattle.refusals.specs.declared.fault.Fault.TheVariants.{Full, Past}
 use Rattle.bitlaws.specs.Bits.{ones_among, rank_of}
@@ -12,8 +12,8 @@ use Rattle.options.specs.declared.fault.OptionsFault.{OptionsFault}
 use Rattle.options.specs.declared.fault.OptionsFault.TheVariants.{Own, Somes}
 use Rattle.options.specs.Entries.{merge, somes, some_marks}
 use Rattle.options.specs.Limits.{limited, asked}
-use Rattle.options.specs.EntriesLemmas.{merge_length, marks_more, somes_more, somes_merge, marks_part, somes_part, merged, matched}
-use Rattle.options.specs.Limiting.{asked_over, asked_within, limit_asks}
+use Rattle.options.specs.EntriesLemmas.{merge_length, marks_more, somes_more, somes_merge, marks_part, somes_part}
+use Rattle.options.specs.Limiting.{asked_over, asked_within}
 
 abbrev pub own_past : {F : Type 0} → ℕ → OptionsFault F
 own_past e = Own (Past e)

@@ -1,12 +1,11 @@
 -- Marks and items of a list of options, apart and together.
-use Rattle.std.specs.Prelude.{◌≡◌, ℕ, zero, suc, ◌+◌, ◌-◌, ◌<◌, ◌≤◌, Bool, true, false, cond, List, [], ◌∷◌, ◌++◌, length, get_or, take, drop, is_some, Some, None, Ok, Err, Option, Result, slice_index_or, refl}
-use Rattle.std.proofs.Common.{ap, sym, ◌∙◌, subst, append-nil, arith, length-append}
+use Rattle.std.specs.Prelude.{◌≡◌, ℕ, ◌-◌, ◌<◌, ◌≤◌, Bool, true, false, List, [], ◌∷◌, ◌++◌, length, get_or, take, drop, is_some, Some, None, Ok, Option, slice_index_or, refl}
+use Rattle.std.proofs.Common.{ap, sym, ◌∙◌, subst, arith}
 use Rattle.std.proofs.lemmas.List.{map-append, length-map, take-map, drop-map, get_or-map}
 use Rattle.bitlaws.specs.Bits.{ones_among, rank_of}
 use Rattle.columns.specs.Kinds.{Each, Lawful}
-use Rattle.columns.specs.Plain.{got, part, marks}
-use Rattle.columns.specs.Variants.{picked}
-use Rattle.columns.proofs.Lists.{got_inside, got_at}
+use Rattle.columns.specs.Plain.{got, part}
+use Rattle.columns.proofs.Lists.{got_inside}
 use Rattle.columns.proofs.Picked.{picked_append, picked_length, picked_part, picked_at}
 use Rattle.options.specs.Entries.{some_marks, somes, merge, Fits}
 

@@ -1,6 +1,6 @@
 -- The limit and the refusals of a column of options, from those of its parts: `room` says how many marks
 -- there may be, `limit` and `ask` are the payload's.
-use Rattle.std.specs.Prelude.{ℕ, Bool, cond, ◌&&◌, List, length, Ok, Err, Option, Result}
+use Rattle.std.specs.Prelude.{ℕ, Bool, cond, ◌&&◌, List, length, Err, Option, Result}
 use Rattle.std.specs.Result.{result_map_both}
 use Rattle.refusals.specs.declared.fault.Fault.TheVariants.{Full}
 use Rattle.options.specs.declared.fault.OptionsFault.{OptionsFault}

@@ -7,7 +7,7 @@ use Rattle.columns.proofs.Appends.{ok_answer}
 use Rattle.results.specs.declared.fault.ResultsFault.{ResultsFault}
 use Rattle.results.specs.declared.fault.ResultsFault.TheVariants.{Own, Oks, Errs}
 use Rattle.results.specs.Entries.{merge, oks, errs, ok_marks}
-use Rattle.results.specs.Limits.{limited, both, asked}
+use Rattle.results.specs.Limits.{both, asked}
 use Rattle.results.specs.EntriesLemmas.{merge_length, marks_more, oks_more, errs_more, oks_merge, errs_merge, merged, matched_ones, matched_zeros}
 use Rattle.results.specs.Limiting.{asked_over, asked_within}
 

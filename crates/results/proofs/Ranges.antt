@@ -1,10 +1,9 @@
 -- A range of entries of a column of results, added to another.
-use Rattle.std.proofs.Common.{◌≡◌, ℕ, ◌+◌, ◌-◌, ◌<◌, ◌≤◌, Bool, true, false, ltb, List, [], ◌∷◌, ◌++◌, length, is_ok, Ok, Err, Result, sym, refl, ap, ◌∙◌, subst, arith, length-append, ltb-false, ltb-true}
+use Rattle.std.proofs.Common.{◌≡◌, ℕ, ◌+◌, ◌-◌, ◌<◌, ◌≤◌, Bool, true, false, ltb, List, ◌++◌, length, is_ok, Ok, Err, Result, sym, refl, ap, ◌∙◌, arith, length-append, ltb-false, ltb-true}
 use Rattle.std.specs.Result.{result_map_both}
 use Rattle.refusals.specs.declared.fault.Fault.TheVariants.{Full, Past}
 use Rattle.bitlaws.specs.Bits.{ones_among, rank_of}
 use Rattle.bitlaws.proofs.Ranks.{rank_rises_lem}
-use Rattle.bitlaws.proofs.Words.{rank_under}
 use Rattle.columns.specs.Plain.{part, append_answer}
 use Rattle.columns.proofs.Lists.{length_part}
 use Rattle.columns.proofs.Appends.{answer_past, answer_in, answer_within}

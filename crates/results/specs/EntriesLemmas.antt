@@ -1,11 +1,10 @@
 -- Marks and items of a list of results, apart and together.
-use Rattle.std.specs.Prelude.{◌≡◌, ℕ, zero, suc, ◌+◌, ◌-◌, ◌<◌, ◌≤◌, Bool, true, false, cond, not, List, [], ◌∷◌, ◌++◌, length, get_or, take, drop, is_some, is_ok, Some, None, Ok, Err, Option, Result, slice_index_or, refl}
-use Rattle.std.proofs.Common.{ap, sym, ◌∙◌, subst, append-nil, arith, length-append}
+use Rattle.std.specs.Prelude.{◌≡◌, ℕ, ◌+◌, ◌-◌, ◌<◌, ◌≤◌, Bool, true, false, not, List, [], ◌∷◌, ◌++◌, length, get_or, take, drop, is_some, is_ok, Ok, Err, Result, slice_index_or, refl}
+use Rattle.std.proofs.Common.{ap, sym, ◌∙◌, subst, arith}
 use Rattle.std.proofs.lemmas.List.{map-append, length-map, take-map, drop-map, get_or-map}
 use Rattle.bitlaws.specs.Bits.{ones_among, rank_of}
 use Rattle.columns.specs.Kinds.{Each, Lawful}
 use Rattle.columns.specs.Plain.{got, part, marks}
-use Rattle.columns.specs.Variants.{picked}
 use Rattle.columns.proofs.Lists.{got_found}
 use Rattle.columns.proofs.Picked.{picked_append, picked_length, picked_part, picked_at, rank_not}
 use Rattle.results.specs.Entries.{ok_marks, ok_of, err_of, oks, errs, merge, Fits}

@@ -1,6 +1,6 @@
 -- The limit and the refusals of a column of results, from those of its parts: `room` says how many marks
 -- there may be, the limits and the asks are the payloads'.
-use Rattle.std.specs.Prelude.{ℕ, Bool, cond, ◌&&◌, List, length, Ok, Err, Result}
+use Rattle.std.specs.Prelude.{ℕ, Bool, cond, ◌&&◌, List, length, Err, Result}
 use Rattle.std.specs.Result.{result_map_both}
 use Rattle.refusals.specs.declared.fault.Fault.TheVariants.{Full}
 use Rattle.columns.specs.Variants.{first_of}

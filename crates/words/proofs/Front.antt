@@ -1,5 +1,5 @@
 -- A store that holds its list as the first n of some words.
-use Rattle.std.proofs.Common.{◌≡◌, ℕ, ◌+◌, ◌<◌, ◌≤◌, min, ltb, List, [], ◌∷◌, ◌++◌, length, get_or, take, set, Ok, Err, sym, refl, ap, ◌∙◌, zero-le, arith}
+use Rattle.std.proofs.Common.{◌≡◌, ℕ, ◌+◌, ◌<◌, ◌≤◌, List, [], ◌∷◌, ◌++◌, length, get_or, take, set, Ok, Err, ap, ◌∙◌, zero-le, arith}
 use Rattle.std.proofs.lemmas.List.{length-take, length-take-le, get_or-take, take_more_set, take_all, length_push}
 use Rattle.std.proofs.lemmas.Bool.{lt-ltb, le-ltb}
 use Rattle.refusals.specs.declared.fault.Fault.TheVariants.{Outside, Full}

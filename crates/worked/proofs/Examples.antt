@@ -1,11 +1,11 @@
 -- What the examples come to, over lists alone.
-use Rattle.std.proofs.Common.{◌≡◌, ℕ, zero, suc, ◌+◌, ◌-◌, ◌*◌, ◌/◌, ◌%◌, ◌^◌, ◌<◌, ◌≤◌, min, Bool, true, false, cond, ◌&&◌, ltb, leb, List, [], ◌∷◌, ◌++◌, length, get_or, take, replicate, Some, Ok, Err, sym, refl, ap, ◌∙◌, subst, ap₂, ⊎_elim, one-add, arith, lit<, lit≤}
+use Rattle.std.proofs.Common.{◌≡◌, ℕ, zero, suc, ◌+◌, ◌/◌, ◌<◌, ◌≤◌, Bool, true, cond, ◌&&◌, ltb, List, [], ◌∷◌, ◌++◌, length, get_or, replicate, Some, Ok, Err, refl, ap, ◌∙◌, ap₂, ⊎_elim, one-add, arith, lit<, lit≤}
 use Rattle.std.proofs.lemmas.List.{length-replicate, take-replicate, replicate_more}
 use Rattle.std.proofs.lemmas.Nat.{pow_pos}
 use Rattle.std.proofs.lemmas.Bool.{le-leb, lt-ltb, le-ltb, cases_lt}
 use Rattle.refusals.specs.declared.fault.Fault.TheVariants.{Outside}
 use Rattle.words.specs.Words.{word_answer}
-use Rattle.bitlaws.specs.Bits.{most_bits, low_bits, word_bits, bits_of, ones_among, rank_of, select_of, Words64, Held, Counted}
+use Rattle.bitlaws.specs.Bits.{most_bits, low_bits, word_bits, bits_of, ones_among, select_of, Words64, Held, Counted}
 use Rattle.bits.specs.Columns.{fits, push_list, group_list}
 use Rattle.cursor.specs.Moves.{Spot, next_one, step, meets, told, left}
 use Rattle.bitlaws.proofs.Holding.{same_words, same_tail, same_count}

@@ -1,5 +1,5 @@
-use Rattle.std.proofs.Common.{◌≡◌, ℕ, ◌+◌, ◌-◌, ◌<◌, ◌≤◌, Some, sym, refl, ap, ◌∙◌, arith}
-use lib.Count.{ones, ones-le}
+use Rattle.std.proofs.Common.{sym, arith}
+use lib.Count.{ones-le}
 use Rattle.bitlaws.specs.Bits.{low_bits}
 use Rattle.bitlaws.proofs.InWord.{ones_word}
 use Rattle.bitlaws.proofs.Selects.{select_some, select_none}

@@ -1,6 +1,4 @@
-use Rattle.std.proofs.Common.{◌≡◌, ◌+◌, ◌*◌, ◌/◌, ◌≤◌, true, length, subst, arith}
-use Rattle.std.proofs.lemmas.Bool.{le-leb}
-use Rattle.bitlaws.specs.Bits.{most_bits}
+use Rattle.std.proofs.Common.{◌≡◌, ◌+◌, ◌*◌, ◌≤◌, length, subst, arith}
 use Rattle.bitlaws.proofs.Words.{length_bits}
 use Rattle.bits.specs.Columns.{column_bits}
 use Rattle.bits.proofs.Growing.{fits_made}

@@ -1,6 +1,6 @@
 use Rattle.std.proofs.Common.{ℕ, ◌%◌, get_or, sym, ap, ◌∙◌, arith}
 use Rattle.std.proofs.lemmas.List.{at_drop_all}
-use Rattle.store.specs.Answers.{ragged_fault, bytes_of}
+use Rattle.store.specs.Answers.{ragged_fault}
 use Rattle.store.proofs.Ragged.{ragged_none, ragged_here, ragged_more}
 use Rattle.store.proofs.table.ragged_fault.Goals as goal
 

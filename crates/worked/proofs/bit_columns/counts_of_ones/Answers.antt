@@ -1,4 +1,4 @@
-use Rattle.std.proofs.Common.{◌≡◌, ℕ, ◌/◌, Bool, true, cond, ltb, List, length, replicate, Ok, Err, refl, ap, ◌∙◌, subst, ap₂}
+use Rattle.std.proofs.Common.{◌≡◌, ◌/◌, Bool, true, cond, ltb, List, length, replicate, Ok, Err, ap, ◌∙◌, subst, ap₂}
 use Rattle.refusals.specs.declared.fault.Fault.TheVariants.{Outside}
 use Rattle.words.specs.contracts.table.Table64ReadWords.TheImpl.{ghosts as tabled}
 use Rattle.words.specs.Words.{word_answer}

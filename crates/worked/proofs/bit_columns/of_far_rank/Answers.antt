@@ -1,4 +1,4 @@
-use Rattle.std.proofs.Common.{◌≡◌, ◌+◌, Bool, true, List, [], ◌∷◌, length, refl, ap, ◌∙◌}
+use Rattle.std.proofs.Common.{◌+◌, Bool, true, List, [], ◌∷◌, length, ap, ◌∙◌}
 use Rattle.bitlaws.specs.Bits.{select_of}
 use Rattle.bits.specs.Columns.{push_list, fits}
 use Rattle.worked.proofs.bit_columns.of_far_rank.Goals as goal

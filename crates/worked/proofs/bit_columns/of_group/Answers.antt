@@ -1,4 +1,4 @@
-use Rattle.std.proofs.Common.{◌≡◌, ℕ, ◌+◌, Bool, List, [], ◌∷◌, length, Ok, refl, ap, ◌∙◌}
+use Rattle.std.proofs.Common.{◌≡◌, ℕ, ◌+◌, Bool, List, [], ◌∷◌, length, Ok, ap, ◌∙◌}
 use Rattle.words.specs.contracts.table.Table64ReadWords.TheImpl.{ghosts as tabled}
 use Rattle.words.specs.Words.{word_answer}
 use Rattle.bitlaws.specs.Bits.{bits_of}

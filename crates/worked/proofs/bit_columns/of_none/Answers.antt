@@ -1,4 +1,4 @@
-use Rattle.std.proofs.Common.{◌≡◌, Bool, List, None, Ok, Err, refl, ap, ◌∙◌}
+use Rattle.std.proofs.Common.{◌≡◌, Bool, List, None, Ok, Err, ap, ◌∙◌}
 use Rattle.refusals.specs.declared.fault.Fault.TheVariants.{Outside}
 use Rattle.bitlaws.specs.Bits.{ones_among, select_of}
 use Rattle.bits.specs.Columns.{rank_answer}

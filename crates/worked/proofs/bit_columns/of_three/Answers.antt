@@ -1,4 +1,4 @@
-use Rattle.std.proofs.Common.{◌≡◌, ◌+◌, Bool, true, false, List, [], ◌∷◌, length, Some, None, Ok, refl, ap, ◌∙◌}
+use Rattle.std.proofs.Common.{◌≡◌, ◌+◌, Bool, true, false, List, [], ◌∷◌, length, Some, None, Ok, ap, ◌∙◌}
 use Rattle.bitlaws.specs.Bits.{ones_among, select_of}
 use Rattle.bits.specs.Columns.{push_list, fits, rank_answer}
 use Rattle.worked.proofs.bit_columns.of_three.Goals as goal

@@ -1,4 +1,4 @@
-use Rattle.std.proofs.Common.{◌≡◌, ℕ, ◌+◌, ◌-◌, ◌≤◌, Bool, true, List, [], ◌∷◌, ◌++◌, length, take, drop, sym, refl, ap, ◌∙◌, subst, ap₂, arith, length-append, length-take}
+use Rattle.std.proofs.Common.{◌+◌, ◌-◌, ◌≤◌, Bool, List, ◌++◌, length, take, drop, ap, ◌∙◌, ap₂, arith, length-append, length-take}
 use Rattle.bitlaws.proofs.Ranges.{range_more}
 use Rattle.bits.specs.Columns.{bits_in, fits_words}
 use Rattle.bits.proofs.Growing.{fits_fewer}

@@ -1,4 +1,4 @@
-use Rattle.std.proofs.Common.{◌≡◌, ◌/◌, ◌%◌, ◌^◌, sym, ap, ◌∙◌, arith}
+use Rattle.std.proofs.Common.{◌/◌, ◌%◌, ◌^◌, sym, ap, ◌∙◌, arith}
 use lib.Count.{trailing_le}
 use Rattle.bitlaws.specs.Bits.{select_of}
 use Rattle.bitlaws.proofs.Words.{length_bits}

@@ -1,4 +1,4 @@
-use Rattle.std.proofs.Common.{◌≡◌, sym, ap, ◌∙◌, arith}
+use Rattle.std.proofs.Common.{sym, ap, ◌∙◌, arith}
 use Rattle.bitlaws.specs.Bits.{select_of}
 use Rattle.bitlaws.proofs.Firsts.{first_word, rank_skip, first_past}
 use Rattle.bits.specs.Columns.{bits_in}

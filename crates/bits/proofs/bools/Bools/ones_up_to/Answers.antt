@@ -1,6 +1,5 @@
-use Rattle.std.proofs.Common.{◌≡◌, ℕ, ◌+◌, ◌*◌, sym, ap, ◌∙◌, arith}
+use Rattle.std.proofs.Common.{◌*◌, ap, arith}
 use lib.Count.{ones, ones-le}
-use Rattle.bitlaws.specs.Bits.{rank_of}
 use Rattle.bitlaws.proofs.Words.{length_bits, rank_word, rank_le}
 use Rattle.bits.specs.Columns.{bits_in}
 use Rattle.bits.proofs.bools.Bools.ones_up_to.Goals as goal

@@ -1,4 +1,4 @@
-use Rattle.std.proofs.Common.{◌≡◌, ℕ, ◌+◌, Bool, true, List, [], ◌∷◌, ◌++◌, length, sym, refl, ap, ◌∙◌, arith}
+use Rattle.std.proofs.Common.{◌≡◌, ℕ, ◌+◌, Bool, true, List, [], ◌∷◌, ◌++◌, length, sym, ap, ◌∙◌, arith}
 use Rattle.bitlaws.proofs.Words.{length_bits}
 use Rattle.bits.specs.Columns.{bits_in, fits_words}
 use Rattle.bits.proofs.Growing.{bit_group, bit_small, pushed, pushed_list}

@@ -1,4 +1,4 @@
-use Rattle.std.proofs.Common.{◌≡◌, ℕ, ◌+◌, ◌-◌, ◌≤◌, sym, refl, ap, ◌∙◌, arith}
+use Rattle.std.proofs.Common.{refl, arith}
 use Rattle.bitlaws.proofs.InWord.{ones_split}
 use Rattle.bits.proofs.Halves.{masked_ones, stays}
 use Rattle.bits.proofs.in_word.Sought.halved.Goals as goal

@@ -1,8 +1,8 @@
-use Rattle.std.proofs.Common.{◌≡◌, ℕ, ◌+◌, ◌/◌, ◌≤◌, Bool, true, List, [], ◌∷◌, ◌++◌, length, sym, refl, ap, ◌∙◌, subst, arith, length-append}
+use Rattle.std.proofs.Common.{◌≡◌, ℕ, ◌+◌, ◌/◌, ◌≤◌, Bool, List, length, sym, ap, ◌∙◌, subst, length-append}
 use Rattle.bitlaws.specs.Bits.{low_bits, Lagging}
 use Rattle.bitlaws.proofs.Words.{length_low}
 use Rattle.bitlaws.proofs.Counts.{lag}
-use Rattle.bits.specs.Columns.{column_bits, bits_in, fits}
+use Rattle.bits.specs.Columns.{column_bits, bits_in}
 use Rattle.bits.proofs.Growing.{fits_all}
 use Rattle.bits.proofs.rank_select.RankSelect.add_bits.Goals as goal
 

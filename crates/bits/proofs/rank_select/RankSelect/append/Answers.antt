@@ -1,8 +1,8 @@
-use Rattle.std.proofs.Common.{◌≡◌, ℕ, ◌+◌, ◌-◌, ◌/◌, ◌≤◌, Bool, true, List, ◌++◌, length, drop, sym, refl, ap, ◌∙◌, subst, arith, length-append, length-take}
+use Rattle.std.proofs.Common.{◌+◌, ◌-◌, ◌/◌, ◌≤◌, Bool, List, ◌++◌, length, drop, sym, subst, arith, length-append, length-take}
 use Rattle.bitlaws.specs.Bits.{Lagging}
 use Rattle.bitlaws.proofs.Words.{length_bits}
 use Rattle.bitlaws.proofs.Counts.{lag}
-use Rattle.bits.specs.Columns.{column_bits, fits, range_of}
+use Rattle.bits.specs.Columns.{column_bits, range_of}
 use Rattle.bits.proofs.Growing.{fits_all}
 use Rattle.bits.proofs.rank_select.RankSelect.append.Goals as goal
 

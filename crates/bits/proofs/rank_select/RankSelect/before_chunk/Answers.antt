@@ -1,4 +1,4 @@
-use Rattle.std.proofs.Common.{◌≡◌, ℕ, ◌+◌, ◌-◌, ◌*◌, sym, ap, ◌∙◌, arith}
+use Rattle.std.proofs.Common.{◌≡◌, ◌+◌, ◌-◌, ◌*◌, sym, ap, ◌∙◌, arith}
 use Rattle.bitlaws.specs.Bits.{rank_of}
 use Rattle.bitlaws.proofs.Words.{rank_none}
 use Rattle.bits.specs.Columns.{column_bits}

@@ -1,4 +1,4 @@
-use Rattle.std.proofs.Common.{◌≡◌, ℕ, Bool, List, sym, subst₂}
+use Rattle.std.proofs.Common.{ℕ, Bool, List, sym, subst₂}
 use Rattle.bitlaws.specs.Bits.{Counted}
 use Rattle.bitlaws.proofs.Counts.{counted_none}
 use Rattle.bits.proofs.rank_select.RankSelect.new.Goals as goal

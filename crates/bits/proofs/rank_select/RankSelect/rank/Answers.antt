@@ -1,4 +1,4 @@
-use Rattle.std.proofs.Common.{◌≡◌, ℕ, ◌*◌, ◌/◌, ap, ◌∙◌, arith}
+use Rattle.std.proofs.Common.{◌≡◌, ◌*◌, ◌/◌, ap, ◌∙◌, arith}
 use Rattle.bitlaws.specs.Bits.{rank_of}
 use Rattle.bitlaws.proofs.Words.{length_bits, rank_le}
 use Rattle.bits.specs.Columns.{column_bits}

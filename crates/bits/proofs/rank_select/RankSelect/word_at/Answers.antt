@@ -1,4 +1,4 @@
-use Rattle.std.proofs.Common.{length, Ok, Err, ap, ◌∙◌, arith}
+use Rattle.std.proofs.Common.{length, Ok, ap, ◌∙◌, arith}
 use Rattle.std.proofs.lemmas.Bool.{le-leb, lt-leb}
 use Rattle.bitlaws.proofs.Words.{length_bits}
 use Rattle.bits.proofs.rank_select.RankSelect.word_at.Goals as goal

@@ -1,4 +1,4 @@
-use Rattle.std.proofs.Common.{◌≡◌, ℕ, ◌+◌, ◌-◌, ◌^◌, ◌<◌, sym, refl, subst, arith}
+use Rattle.std.proofs.Common.{◌≡◌, ℕ, ◌+◌, ◌-◌, ◌^◌, ◌<◌, sym, subst, arith}
 use Rattle.bitlaws.proofs.Groups.{rest_lt}
 use Rattle.bits.proofs.tail.Tail.rest.Goals as goal
 

@@ -1,4 +1,4 @@
-use Rattle.std.proofs.Common.{◌≡◌, ℕ, ◌+◌, ◌*◌, ◌^◌, ◌<◌, sym, refl, ◌∙◌, subst, arith}
+use Rattle.std.proofs.Common.{ℕ, ◌+◌, ◌^◌, ◌<◌, sym, refl, ◌∙◌, subst, arith}
 use Rattle.bitlaws.proofs.Groups.{joined_lt, joined_whole}
 use Rattle.bits.proofs.tail.Tail.with.Goals as goal
 

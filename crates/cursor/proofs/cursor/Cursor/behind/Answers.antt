@@ -1,4 +1,4 @@
-use Rattle.std.proofs.Common.{◌≡◌, ℕ, ◌+◌, ◌-◌, ◌*◌, ap, ◌∙◌, arith}
+use Rattle.std.proofs.Common.{◌≡◌, ◌+◌, ◌-◌, ◌*◌, ap, ◌∙◌, arith}
 use lib.Count.{count_trailing_zeros}
 use Rattle.cursor.specs.Hint.{above}
 use Rattle.cursor.proofs.Hints.{behind_facts}

@@ -1,6 +1,5 @@
-use Rattle.std.proofs.Common.{◌≡◌, ℕ, ◌+◌, ◌-◌, ◌*◌, ◌/◌, ◌<◌, ◌≤◌, max, length, Some, None, Ok, Option, sym, refl, ap, ◌∙◌, arith}
+use Rattle.std.proofs.Common.{◌≡◌, ℕ, ◌+◌, ◌-◌, ◌*◌, ◌/◌, ◌≤◌, max, length, Some, None, Ok, sym, ap, ◌∙◌, arith}
 use lib.Count.{count_trailing_zeros}
-use Rattle.bitlaws.specs.Bits.{first_from}
 use Rattle.bitlaws.proofs.Words.{length_bits}
 use Rattle.bits.specs.Columns.{column_bits}
 use Rattle.cursor.specs.Moves.{spot, Spot}

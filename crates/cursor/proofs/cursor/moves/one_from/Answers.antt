@@ -1,4 +1,4 @@
-use Rattle.std.proofs.Common.{◌*◌, arith}
+use Rattle.std.proofs.Common.{◌*◌}
 use Rattle.bits.specs.Columns.{column_bits}
 use Rattle.cursor.proofs.Bounds.{refused_past}
 use Rattle.cursor.proofs.Hints.{none_past}

@@ -1,4 +1,4 @@
-use Rattle.std.proofs.Common.{◌≡◌, [], ◌∷◌, ◌++◌, length, Err, sym, ap, ◌∙◌, arith}
+use Rattle.std.proofs.Common.{[], ◌∷◌, ◌++◌, Err, sym, ap, ◌∙◌, arith}
 use Rattle.refusals.specs.declared.fault.Fault.TheVariants.{Full}
 use Rattle.columns.proofs.Within.{answer_over, answer_fits, one_more}
 use Rattle.items.proofs.items.ItemsPayload.fits.Goals as goal

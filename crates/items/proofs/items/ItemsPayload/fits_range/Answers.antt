@@ -1,4 +1,4 @@
-use Rattle.std.proofs.Common.{◌≡◌, ◌<◌, ◌≤◌, ◌++◌, length, Err, sym, ap, ◌∙◌, arith}
+use Rattle.std.proofs.Common.{◌<◌, ◌≤◌, ◌++◌, length, Err, sym, ap, ◌∙◌, arith}
 use Rattle.refusals.specs.declared.fault.Fault.TheVariants.{Full, Past}
 use Rattle.columns.specs.Plain.{part, within, within_answer}
 use Rattle.columns.proofs.Appends.{answer_in}

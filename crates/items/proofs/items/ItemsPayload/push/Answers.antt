@@ -1,4 +1,4 @@
-use Rattle.std.proofs.Common.{◌≡◌, ◌≤◌, sym, ap, ◌∙◌, subst, arith}
+use Rattle.std.proofs.Common.{◌≤◌, sym, ap, ◌∙◌, subst, arith}
 use Rattle.columns.specs.Kinds.{Lawful, most_items}
 use Rattle.columns.specs.Plain.{within, within_answer}
 use Rattle.columns.proofs.Appends.{refused_inside}

@@ -1,4 +1,4 @@
-use Rattle.std.proofs.Common.{◌≡◌, [], refl, ap, ap₂}
+use Rattle.std.proofs.Common.{[], ap₂}
 use Rattle.bits.specs.Columns.{fits}
 use Rattle.options.specs.Limits.{limited, asked}
 use Rattle.options.specs.EntriesLemmas.{merged, matched}

@@ -1,7 +1,6 @@
-use Rattle.std.proofs.Common.{◌≡◌, true, false, [], ◌∷◌, ◌++◌, length, is_ok, Ok, Err, sym, refl, ap, ◌∙◌, ap₂, append-nil, arith}
+use Rattle.std.proofs.Common.{◌≡◌, true, false, [], ◌∷◌, ◌++◌, length, Ok, Err, sym, refl, ap, ◌∙◌, ap₂, append-nil, arith}
 use Rattle.std.proofs.lemmas.Result.{err_from_is_err_and}
 use Rattle.bits.specs.Columns.{column_bits, room_in}
-use Rattle.columns.specs.Plain.{grown}
 use Rattle.columns.proofs.Marked.{marks_few}
 use Rattle.columns.proofs.Appends.{grown_by, on_refusal}
 use Rattle.options.specs.Entries.{somes, some_marks, merge}

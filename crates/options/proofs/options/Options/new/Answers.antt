@@ -1,5 +1,4 @@
-use Rattle.std.proofs.Common.{◌≡◌, [], sym, refl, ap, ◌∙◌}
-use Rattle.options.specs.Entries.{merge}
+use Rattle.std.proofs.Common.{[]}
 use Rattle.options.specs.EntriesLemmas.{merged, matched}
 use Rattle.options.proofs.options.Options.new.Goals as goal
 

@@ -1,4 +1,4 @@
-use Rattle.std.proofs.Common.{◌≡◌, ◌<◌, true, false, length, get_or, Ok, Err, sym, ap, ◌∙◌, arith}
+use Rattle.std.proofs.Common.{◌<◌, length, Err, sym, ap, ◌∙◌, arith}
 use Rattle.bitlaws.specs.Bits.{rank_of}
 use Rattle.bits.specs.Columns.{column_bits}
 use Rattle.columns.specs.Plain.{got}

@@ -1,6 +1,5 @@
-use Rattle.std.proofs.Common.{◌≡◌, true, false, leb, length, Ok, Err, sym, ap, ◌∙◌, arith, le-leb}
+use Rattle.std.proofs.Common.{◌≡◌, true, false, leb, length, Ok, Err, sym, ap, arith, le-leb}
 use borrow.Author.Tests.{lt-leb}
-use Rattle.bitlaws.specs.Bits.{rank_of}
 use Rattle.bits.specs.Columns.{column_bits}
 use Rattle.columns.proofs.Marked.{rank_found, rank_refused}
 use Rattle.options.specs.Entries.{merge}

@@ -1,4 +1,4 @@
-use Rattle.std.proofs.Common.{◌≡◌, [], ◌∷◌, ◌++◌, sym, refl, ap, ◌∙◌}
+use Rattle.std.proofs.Common.{[], ◌∷◌, ap}
 use Rattle.bits.specs.Columns.{column_bits, room_in}
 use Rattle.results.specs.Entries.{oks, errs}
 use Rattle.results.proofs.Pushes.{push_over, push_by_oks, push_by_errs, held_answer}

@@ -1,5 +1,5 @@
-use Rattle.std.proofs.Common.{◌≡◌, ℕ, ◌<◌, ◌≤◌, min, List, [], ◌∷◌, ◌++◌, refl, ap, ◌∙◌, arith}
-use Rattle.words.specs.Words.{most, heap_room, heap_list}
+use Rattle.std.proofs.Common.{ℕ, min, List, ap, ◌∙◌, arith}
+use Rattle.words.specs.Words.{most, heap_list}
 use Rattle.words.proofs.Front.{take_none}
 use Rattle.words.proofs.heap.HeapWords.new.Goals as goal
 

@@ -1,4 +1,4 @@
-use Rattle.std.proofs.Common.{ℕ, min, List, take, refl, ap, ◌∙◌}
+use Rattle.std.proofs.Common.{ℕ, min, List, ap, ◌∙◌}
 use Rattle.words.specs.Words.{heap_list, heap_room, most}
 use Rattle.words.proofs.Front.{take_none}
 use Rattle.words.proofs.heap.HeapWordsGrowWords.clear.Goals as goal

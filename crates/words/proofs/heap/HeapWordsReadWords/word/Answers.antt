@@ -1,4 +1,4 @@
-use Rattle.std.proofs.Common.{ℕ, min, get_or, Ok, vec_items, sym, ap, ◌∙◌, arith}
+use Rattle.std.proofs.Common.{min, Ok, vec_items, ap, ◌∙◌, arith}
 use Rattle.std.proofs.lemmas.List.{length-take, get_or_default}
 use Rattle.words.specs.Words.{most}
 use Rattle.words.proofs.Front.{cut_word, front_outside}

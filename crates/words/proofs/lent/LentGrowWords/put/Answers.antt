@@ -1,4 +1,4 @@
-use Rattle.std.proofs.Common.{◌≡◌, ℕ, ◌+◌, ◌<◌, ◌≤◌, min, length, take, set, sym, ap, ◌∙◌, arith, length-set}
+use Rattle.std.proofs.Common.{◌≡◌, ℕ, ◌+◌, ◌<◌, min, length, take, set, ap, ◌∙◌, arith, length-set}
 use Rattle.words.specs.Words.{most, put_list}
 use Rattle.words.proofs.Front.{front_put_answer, front_put_list}
 use Rattle.words.proofs.lent.LentGrowWords.put.Goals as goal

@@ -1,4 +1,4 @@
-use Rattle.std.proofs.Common.{◌≡◌, ℕ, ◌+◌, ◌<◌, ◌≤◌, min, length, take, set, sym, refl, ap, ◌∙◌, arith}
+use Rattle.std.proofs.Common.{◌≡◌, ℕ, ◌+◌, min, take, set, refl, ap, ◌∙◌, arith}
 use Rattle.words.specs.Words.{put_list}
 use Rattle.words.proofs.Front.{front_put_answer, front_put_list}
 use Rattle.words.proofs.table.Table64GrowWords.put.Goals as goal
