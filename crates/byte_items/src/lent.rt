@@ -3,8 +3,8 @@ ghost use Rattle.byte_items.specs.Pack.{buffer_room, buffer_list};
 
 use crate::kind::BytesKind;
 use columns::kind::Kind;
+use items::item_store::{GrowItems, ReadItems};
 use items::items::Items;
-use items::store::{GrowItems, ReadItems};
 use refusals::fault::Fault;
 use words::reading::MOST;
 

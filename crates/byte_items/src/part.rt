@@ -3,7 +3,7 @@ ghost use Rattle.byte_items.specs.Pack.{«part_bytes»};
 
 use crate::kind::BytesKind;
 use columns::kind::Kind;
-use items::store::ReadItems;
+use items::item_store::ReadItems;
 use refusals::fault::Fault;
 use words::part::Part;
 use words::reading::{ReadWords, word_of};

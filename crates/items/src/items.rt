@@ -4,7 +4,7 @@ ghost use Rattle.columns.specs.Plain.{got, part, within, within_answer};
 ghost use Rattle.std.proofs.Common.{rules};
 ghost use Rattle.columns.proofs.Within.{within_begins, within_asks, within_third};
 
-use crate::store::{GrowItems, ReadItems, item_of, put_in};
+use crate::item_store::{GrowItems, ReadItems, item_of, put_in};
 use columns::column::{Column, Payload};
 use columns::kind::Kind;
 use refusals::fault::Fault;

@@ -2,6 +2,6 @@
 // else a store of items holds.
 #![tactic(auto)]
 
+pub mod item_store;
 pub mod items;
-pub mod store;
-pub mod words;
+pub mod word_items;

@@ -5,9 +5,9 @@
 use account::{push_each, report, tell};
 use byte_items::lent::LentBytes;
 use columns::column::Payload;
+use items::item_store::GrowItems;
 use items::items::Items;
-use items::store::GrowItems;
-use items::words::WordItems;
+use items::word_items::WordItems;
 use options::options::Options;
 use results::results::Results;
 use std::io;

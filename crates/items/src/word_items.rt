@@ -2,8 +2,8 @@ ghost use Rattle.std.specs.Prelude.{◌≡◌, ℕ, ◌^◌, ◌<◌, false, Lis
 ghost use Rattle.columns.specs.Kinds.{words_slice};
 ghost use Rattle.std.proofs.Common.{rules};
 
+use crate::item_store::{GrowItems, ReadItems};
 use crate::items::Items;
-use crate::store::{GrowItems, ReadItems};
 use columns::kind::Kind;
 use refusals::fault::Fault;
 use words::reading::{GrowWords, ReadWords};
