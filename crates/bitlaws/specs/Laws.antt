@@ -1,5 +1,5 @@
 -- What rank, select and the holding of bits in words mean, above their definitions.
-use Rattle.std.specs.Prelude.{◌≡◌, ℕ, ◌+◌, ◌<◌, ◌≤◌, Bool, true, false, cond, List, length, get_or, Some, None, ◌≢◌, slice_index, slice_index_or}
+use Rattle.std.specs.Prelude.{◌≡◌, ℕ, ◌+◌, ◌<◌, ◌≤◌, Bool, true, false, cond, List, length, Some, None, ◌≢◌, slice_index, slice_index_or}
 use Rattle.bitlaws.specs.Bits.{most_bits, bits_of, rank_of, select_of, first_from, Sound}
 use Rattle.bitlaws.specs.Forms.{full_words, tail_word, tail_bits, counts_of}
 
@@ -25,7 +25,7 @@ RankRises = (bs : List Bool) (i j : ℕ) → i ≤ j → rank_of bs i ≤ rank_o
 
 -- p holds a one, and r ones stand before it
 pub record Selected (bs : List Bool) (r p : ℕ) : Type 0 where
-  pub one : get_or bs p false ≡ true
+  pub one : slice_index_or bs p false ≡ true
   pub rank : rank_of bs p ≡ r
 
 -- select r is p exactly when p holds a one and rank p is r
@@ -39,7 +39,7 @@ SelectLacks = (bs : List Bool) (r : ℕ) → (select_of bs r ≡ None → (p : �
 -- q is the first one at or after p
 pub record First (bs : List Bool) (p q : ℕ) : Type 0 where
   pub from : p ≤ q
-  pub one : get_or bs q false ≡ true
+  pub one : slice_index_or bs q false ≡ true
   pub none : (j : ℕ) → p ≤ j → j < q → slice_index_or bs j false ≡ false
 
 abbrev pub FirstFinds : Type 0
