@@ -1,6 +1,6 @@
 ghost use Rattle.std.specs.Prelude.{◌≡◌, ℕ, ◌+◌, ◌*◌, ◌/◌, ◌^◌, ◌<◌, ◌≤◌, true, List, [], ◌∷◌, ◌++◌, length, take, drop, Ok, Err, count_ones, slice_index, slice_index_or};
-ghost use Rattle.bitlaws.specs.Bits.{most_bits, «low_bits», rank_of, first_from};
-ghost use Rattle.bits.specs.Columns.{HeldIn, «bits_in», get_answer, first_answer, fits_words, push_answer, push_list};
+ghost use Rattle.bitlaws.specs.Bits.{most_bits, low_bits, rank_of, first_from};
+ghost use Rattle.bits.specs.Columns.{HeldIn, bits_in, get_answer, first_answer, fits_words, push_answer, push_list};
 
 use crate::tail::{Tail, WORD};
 use refusals::fault::Fault;

@@ -1,5 +1,5 @@
 ghost use Rattle.std.specs.Prelude.{◌≡◌, ℕ, ◌+◌, ◌%◌, ◌^◌, ◌<◌, ◌≤◌, count_ones};
-ghost use Rattle.bitlaws.specs.Bits.{«low_bits», select_of};
+ghost use Rattle.bitlaws.specs.Bits.{low_bits, select_of};
 ghost use Rattle.bits.specs.Halving.{Moved};
 
 // The `k`-th one of `word` is sought, and stands `place` further up in the word that was given.

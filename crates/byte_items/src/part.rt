@@ -1,5 +1,5 @@
 ghost use Rattle.std.specs.Prelude.{◌≡◌};
-ghost use Rattle.byte_items.specs.Pack.{«part_bytes»};
+ghost use Rattle.byte_items.specs.Pack.{part_bytes};
 
 use crate::kind::BytesKind;
 use columns::kind::Kind;

@@ -1,6 +1,6 @@
 ghost use Rattle.std.specs.Prelude.{◌≡◌, ℕ, Bool, List, length};
 ghost use Rattle.store.specs.Layout.{Slice, AllFormed};
-ghost use Rattle.columns.specs.Kinds.{Lawful, Whole, «count_of», «size_of»};
+ghost use Rattle.columns.specs.Kinds.{Lawful, Whole, count_of, size_of};
 
 // One more than the most slices of a kind that is written or opened.
 pub const CUT: usize = 4096;

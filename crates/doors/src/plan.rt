@@ -1,6 +1,6 @@
 ghost use Rattle.std.specs.Prelude.{◌≡◌, ℕ, ◌+◌, List, [], ◌∷◌, ◌++◌, Ok, Err};
 ghost use Rattle.bits.specs.Columns.{SoundIn, column_bits};
-ghost use Rattle.doors.specs.Plan.{«mark_of», «Noted»};
+ghost use Rattle.doors.specs.Plan.{mark_of, Noted};
 
 use bits::rank_select::RankSelect;
 use refusals::fault::Fault;

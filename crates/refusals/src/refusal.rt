@@ -1,5 +1,5 @@
 ghost use Rattle.std.specs.Prelude.{◌≡◌, ℕ};
-ghost use Rattle.refusals.specs.Faults.{«number_of», carried_by};
+ghost use Rattle.refusals.specs.Faults.{number_of, carried_by};
 ghost use Rattle.refusals.specs.declared.fault.Fault.TheVariants.{Outside, Past};
 ghost use Rattle.std.proofs.Common.{rules};
 

@@ -1,6 +1,6 @@
 ghost use Rattle.std.specs.Prelude.{◌≡◌, ℕ};
 ghost use Rattle.std.specs.Result.{result_map_both};
-ghost use Rattle.refusals.specs.Faults.{«number_of», carried_by};
+ghost use Rattle.refusals.specs.Faults.{number_of, carried_by};
 ghost use Rattle.refusals.specs.declared.fault.Fault.TheVariants.{Outside, Past};
 ghost use Rattle.results.specs.declared.fault.ResultsFault.TheVariants.{Own, Oks, Errs};
 ghost use Rattle.std.proofs.Common.{rules};

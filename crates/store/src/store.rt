@@ -1,6 +1,6 @@
 ghost use Rattle.std.specs.Prelude.{◌≡◌, ◌-◌, take, drop, Ok, Err};
 ghost use Rattle.std.specs.Result.{result_map_both};
-ghost use Rattle.store.specs.Answers.{check_answer, validate_answer, slices_in, «slice_of»};
+ghost use Rattle.store.specs.Answers.{check_answer, validate_answer, slices_in, slice_of};
 
 use crate::table::{place, store_fault, validate_fault, word_or_zero};
 use refusals::fault::Fault;

@@ -1,6 +1,6 @@
 ghost use Rattle.std.specs.Prelude.{◌≡◌, ◌<◌, ◌≤◌, length, slice_index};
 ghost use Rattle.store.specs.Layout.{up};
-ghost use Rattle.store.specs.Answers.{ends_fault, store_fault, ragged_fault, validate_fault, «bytes_of»};
+ghost use Rattle.store.specs.Answers.{ends_fault, store_fault, ragged_fault, validate_fault, bytes_of};
 
 use refusals::fault::Fault;
 

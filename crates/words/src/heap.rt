@@ -1,5 +1,5 @@
 ghost use Rattle.std.specs.Prelude.{◌≡◌, ℕ, min, [], length, IfOk};
-ghost use Rattle.std.specs.Vec.{«vec_len», «vec_items», vec_capacity};
+ghost use Rattle.std.specs.Vec.{vec_capacity, vec_len};
 ghost use Rattle.words.specs.Words.{most, heap_room, heap_list};
 
 use crate::reading::{GrowWords, MOST, ReadWords};

@@ -1,6 +1,6 @@
 ghost use Rattle.std.specs.Prelude.{◌≡◌, ℕ, ◌+◌, ◌-◌, ◌^◌, ◌<◌, ◌≤◌, true, List, [], ◌∷◌, ◌++◌, length, Ok, Err};
-ghost use Rattle.bitlaws.specs.Bits.{«low_bits»};
-ghost use Rattle.bits.specs.Columns.{HeldIn, «bits_in», fits_words, push_answer, push_list, lawful_group, group_answer, group_list, range_of, append_answer, append_list};
+ghost use Rattle.bitlaws.specs.Bits.{low_bits};
+ghost use Rattle.bits.specs.Columns.{HeldIn, bits_in, fits_words, push_answer, push_list, lawful_group, group_answer, group_list, range_of, append_answer, append_list};
 
 use crate::bools::Bools;
 use crate::tail::{Tail, WORD};

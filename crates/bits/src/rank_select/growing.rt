@@ -1,5 +1,5 @@
 ghost use Rattle.std.specs.Prelude.{◌≡◌, ℕ, ◌+◌, ◌-◌, ◌/◌, ◌^◌, ◌<◌, ◌≤◌, true, List, [], ◌∷◌, ◌++◌, length, Ok, Err};
-ghost use Rattle.bitlaws.specs.Bits.{«low_bits», Lagging};
+ghost use Rattle.bitlaws.specs.Bits.{low_bits, Lagging};
 ghost use Rattle.bits.specs.Columns.{HeldIn, SoundIn, column_bits, fits, push_answer, push_list, group_answer, group_list, append_answer, append_list};
 
 use crate::bools::Bools;

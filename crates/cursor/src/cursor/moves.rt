@@ -3,7 +3,7 @@ ghost use Rattle.std.specs.Int.Count.{count_trailing_zeros};
 ghost use Rattle.bitlaws.specs.Bits.{first_from};
 ghost use Rattle.bits.specs.Columns.{SoundIn, column_bits};
 ghost use Rattle.cursor.specs.Hint.{above};
-ghost use Rattle.cursor.specs.Moves.{spot, «next_one», step, «to_pos», to_rank, behind_one, meets, ahead, told, left};
+ghost use Rattle.cursor.specs.Moves.{spot, next_one, step, to_pos, to_rank, behind_one, meets, ahead, told, left};
 
 use crate::cursor::Cursor;
 use bits::rank_select::RankSelect;
