@@ -9,8 +9,7 @@ use refusals::fault::Fault;
 use words::reading::MOST;
 
 // A buffer of bytes handed in. Its length, cut to the most there may be, is the capacity; the first
-// `used` bytes, cut to the capacity, are the list. Cut in code: a ghost field beside a `&mut` would
-// keep the store out of every column.
+// `used` bytes, cut to the capacity, are the list. They are cut in code, at each call.
 #[derive(Drop)]
 pub struct LentBytes<'a> {
     bytes: &'a mut [u8],

@@ -7,8 +7,7 @@ ghost use Rattle.items.specs.Stores.{put_answer, put_list};
 use columns::kind::Kind;
 use refusals::fault::Fault;
 
-// A store of items that reads: it means a list, as a word store does. It has no law, so that a store
-// with a lifetime can be one.
+// A store of items that reads: it means a list, as a word store does.
 pub trait ReadItems {
     type Item: Copy;
 

@@ -5,8 +5,7 @@ use crate::reading::{GrowWords, MOST, ReadWords};
 use refusals::fault::Fault;
 
 // A buffer handed in. Its length, cut to the most there may be, is the capacity; the first `used`
-// words, cut to the capacity, are the list. Cut in code: a ghost field beside a `&mut` would keep
-// the store out of every column.
+// words, cut to the capacity, are the list. They are cut in code, at each call.
 #[derive(Drop)]
 pub struct Lent<'a> {
     words: &'a mut [u64],
