@@ -1,2 +1,3 @@
+mod Held
 mod Pushes
 mod Ranges
