@@ -1,6 +1,6 @@
 -- The counts of whole chunks of 1,024 bits.
-use Rattle.std.proofs.Common.{◌≡◌, ℕ, ◌+◌, ◌*◌, ◌/◌, ◌<◌, ◌≤◌, Bool, List, [], ◌∷◌, ◌++◌, length, sym, refl, ap, ◌∙◌, ⊎_elim, not-suc-le-zero, arith, length-append}
-use lib.Seq.{take-append-le}
+use Rattle.std.proofs.Common.{◌≡◌, ℕ, ◌+◌, ◌*◌, ◌/◌, ◌<◌, ◌≤◌, Bool, List, [], ◌∷◌, ◌++◌, length, sym, refl, ap, ◌∙◌, ⊎_elim, arith, length-append}
+use Rattle.std.proofs.Math.Seq.{take-append-le}
 use Rattle.std.proofs.lemmas.List.{length_push, get_or_push, get_or_append_left}
 use Rattle.std.proofs.lemmas.Bool.{cases_lt}
 use Rattle.bitlaws.specs.Bits.{ones_among, rank_of, Counted, Lagging}
@@ -15,9 +15,6 @@ lag cs bs ys h = record {
   each = λ j l. h.each j l ∙ sym (rank_append bs ys (1024 * (j + 1)) (omega (arith, h.many)));
 }
 
-pub counted_lags : (cs : List ℕ) (bs : List Bool) → Counted cs bs → Lagging cs bs
-counted_lags cs bs h = record { most = omega (arith, h.many); each = h.each }
-
 -- none is missing
 pub caught : (cs : List ℕ) (bs : List Bool) → Lagging cs bs → length bs / 1024 ≤ length cs → Counted cs bs
 caught cs bs h all = record { many = omega (arith, h.most); each = h.each }
@@ -27,12 +24,12 @@ pub catch : (cs : List ℕ) (bs : List Bool) (c : ℕ) → Lagging cs bs → len
 catch cs bs c h short is = record {
   most = omega (arith, length_push cs c);
   each = λ j l. ⊎_elim
-      (λ (lt : j < length cs). get_or_append_left cs (c ∷ []) 0 j lt ∙ h.each j lt)
+      (λ (lt : j < length cs). rw (get_or_append_left cs (c ∷ []) 0 j lt) (h.each j lt))
       (λ (ge : length cs ≤ j).
       let e : length cs ≡ j = omega (arith, length_push cs c) in
-      get_or_push cs c 0 j e ∙ is ∙ ap (λ (x : ℕ). rank_of bs (1024 * (x + 1))) e)
+      rw (get_or_push cs c 0 j e, ← e) is)
       (cases_lt j (length cs));
 }
 
 pub counted_none : Counted [] []
-counted_none = record { many = refl; each = λ j l. absurd (not-suc-le-zero l) }
+counted_none = record { many = refl; each = λ j l. absurd (omega arith) }

@@ -1,11 +1,11 @@
 -- The first one at or after a place.
-use Rattle.std.proofs.Common.{◌≡◌, ℕ, zero, suc, ◌+◌, ◌-◌, ◌*◌, ◌/◌, ◌%◌, ◌^◌, ◌<◌, ◌≤◌, Bool, true, false, cond, eqb, List, ◌∷◌, length, get_or, Some, None, sym, refl, ap, ◌∙◌, subst, ap₂, ⊎_elim, lt_of_lt_of_le, add-zero, add_assoc, pow-suc, zero-add, div-one, arith, lit<, pow_mono}
-use native.Mathlib.Nat.{div-eq_of_lt, div-add-mod}
-use lib.Count.{ones, under, count_trailing_zeros}
-use lib.Pow.{split}
+use Rattle.std.proofs.Common.{◌≡◌, ℕ, zero, suc, ◌+◌, ◌-◌, ◌*◌, ◌/◌, ◌%◌, ◌^◌, ◌<◌, ◌≤◌, Bool, true, false, eqb, List, ◌∷◌, length, get_or, Some, None, refl, ap, ⊎_elim, lt_of_lt_of_le, add-zero, add_assoc, pow-suc, zero-add, div-one, arith, lit<, pow_mono}
+use Rattle.std.proofs.Math.Nat.{div-eq_of_lt, div-add-mod}
+use Rattle.std.specs.Int.Count.{ones, under, count_trailing_zeros}
+use Rattle.std.proofs.Math.Pow.{split}
 use Rattle.std.proofs.lemmas.Nat.{mod_below, shr-shr, shr_le, div-add-mod', div_below}
 use Rattle.std.proofs.lemmas.List.{take_all, get_or_past, get_or_default}
-use Rattle.std.proofs.lemmas.Bool.{true≢false, eqb-true, eq-eqb, cases_lt, cases_Bool}
+use Rattle.std.proofs.lemmas.Bool.{eqb-true, cases_lt, cases_Bool}
 use Rattle.bitlaws.specs.Bits.{low_bits, bits_of, ones_among, rank_of, after, select_of, first_from, Held}
 use Rattle.bitlaws.specs.Laws.{Selected, FirstFinds, FirstLacks}
 use Rattle.bitlaws.proofs.Words.{ones_zero, length_low, length_bits, rank_place, rank_word}
@@ -27,33 +27,32 @@ trailing_first (suc k) n some few = by_digit (n % 2) refl (mod_below n 2 (lit< t
 
 -- the same above bit r of a word
 module _ (w r : ℕ) (fit : w < 2 ^ 64) (some : 0 < w / 2 ^ r) where
-  shifted_fit : w / 2 ^ r < 2 ^ 64
-  shifted_fit = omega (arith, fit, shr_le w r)
+  -- how far above
+  abbrev up : ℕ
+  up = count_trailing_zeros 64 (w / 2 ^ r)
 
-  here : Selected (low_bits 64 (w / 2 ^ r)) 0 (count_trailing_zeros 64 (w / 2 ^ r))
-  here = select_place (low_bits 64 (w / 2 ^ r)) 0 (count_trailing_zeros 64 (w / 2 ^ r)) (trailing_first 64 (w / 2 ^ r) some shifted_fit)
+  here : Selected (low_bits 64 (w / 2 ^ r)) 0 up
+  here = select_place (low_bits 64 (w / 2 ^ r)) 0 up (trailing_first 64 (w / 2 ^ r) some (omega (arith, fit, shr_le w r)))
 
-  inside : count_trailing_zeros 64 (w / 2 ^ r) < 64
+  inside : up < 64
   inside = ⊎_elim
-      (λ (lt : count_trailing_zeros 64 (w / 2 ^ r) < 64). lt)
-      (λ (ge : 64 ≤ count_trailing_zeros 64 (w / 2 ^ r)). absurd (true≢false (sym here.one ∙ get_or_past (low_bits 64 (w / 2 ^ r)) (count_trailing_zeros 64 (w / 2 ^ r)) false (omega (arith, length_low 64 (w / 2 ^ r))))))
-      (cases_lt (count_trailing_zeros 64 (w / 2 ^ r)) 64)
+      (λ (lt : up < 64). lt)
+      (λ (ge : 64 ≤ up). let none = rw (get_or_past (low_bits 64 (w / 2 ^ r)) up false (omega (arith, length_low 64 (w / 2 ^ r)))) at here.one in absurd (cc))
+      (cases_lt up 64)
 
-  bit_set : w / 2 ^ (r + count_trailing_zeros 64 (w / 2 ^ r)) % 2 ≡ 1
-  bit_set =
-      ap (λ (x : ℕ). x % 2) (sym (shr-shr w r (count_trailing_zeros 64 (w / 2 ^ r))))
-      ∙ eqb-true (w / 2 ^ r / 2 ^ count_trailing_zeros 64 (w / 2 ^ r) % 2) 1 (sym (low_bit 64 (w / 2 ^ r) (count_trailing_zeros 64 (w / 2 ^ r)) inside) ∙ here.one)
+  bit_set : w / 2 ^ (r + up) % 2 ≡ 1
+  bit_set = rw (← shr-shr w r up) (eqb-true (w / 2 ^ r / 2 ^ up % 2) 1 (rw (← low_bit 64 (w / 2 ^ r) up inside) here.one))
 
-  low : r + count_trailing_zeros 64 (w / 2 ^ r) < 64
+  low : r + up < 64
   low = ⊎_elim
-      (λ (lt : r + count_trailing_zeros 64 (w / 2 ^ r) < 64). lt)
-      (λ (ge : 64 ≤ r + count_trailing_zeros 64 (w / 2 ^ r)). absurd (omega (arith, bit_set, ap (λ (x : ℕ). x % 2) (div-eq_of_lt (lt_of_lt_of_le fit (pow_mono ge))))))
-      (cases_lt (r + count_trailing_zeros 64 (w / 2 ^ r)) 64)
+      (λ (lt : r + up < 64). lt)
+      (λ (ge : 64 ≤ r + up). absurd (omega (arith, rw (div-eq_of_lt (lt_of_lt_of_le fit (pow_mono ge))) at bit_set)))
+      (cases_lt (r + up) 64)
 
-  pub first_above : Selected (low_bits 64 w) (ones (w % 2 ^ r)) (r + count_trailing_zeros 64 (w / 2 ^ r))
+  first_above : Selected (low_bits 64 w) (ones (w % 2 ^ r)) (r + up)
   first_above = record {
-    one = low_bit 64 w (r + count_trailing_zeros 64 (w / 2 ^ r)) low ∙ eq-eqb (w / 2 ^ (r + count_trailing_zeros 64 (w / 2 ^ r)) % 2) 1 bit_set;
-    rank = low_rank 64 w (r + count_trailing_zeros 64 (w / 2 ^ r)) (omega (arith, low)) ∙ omega (arith, ones_split w r (count_trailing_zeros 64 (w / 2 ^ r)), low_rank 64 (w / 2 ^ r) (count_trailing_zeros 64 (w / 2 ^ r)) (omega (arith, inside)), here.rank);
+    one = rw (low_bit 64 w (r + up) low, bit_set) refl;
+    rank = omega (arith, low_rank 64 w (r + up) (omega (arith, low)), ones_split w r up, low_rank 64 (w / 2 ^ r) up (omega (arith, inside)), here.rank);
   }
 
 module _ (ws : List ℕ) (t k b : ℕ) (h : Held ws t k) (le : b ≤ length ws) where
@@ -63,28 +62,25 @@ module _ (ws : List ℕ) (t k b : ℕ) (h : Held ws t k) (le : b ≤ length ws) 
   -- one word, or the tail, further
   pub rank_next : rank_of (bits_of ws t k) (64 * (b + 1)) ≡ rank_of (bits_of ws t k) (64 * b) + ones (get_or ws b t)
   rank_next = ⊎_elim
-      (λ (lt : b < length ws). rank_word ws t k b lt (h.fit b) ∙ ap (λ (x : ℕ). rank_of (bits_of ws t k) (64 * b) + ones x) (get_or_default ws b 0 t lt))
+      (λ (lt : b < length ws). rw (get_or_default ws b t 0 lt) (rank_word ws t k b lt (h.fit b)))
       (λ (ge : length ws ≤ b).
-      let e : length ws ≡ b = omega arith in
-      all_ones (64 * (b + 1)) (omega (arith, h.tailed.few)) ∙ ones_all ws t k h.tailed
-      ∙ ap₂ (λ (x y : ℕ). rank_of (bits_of ws t k) (64 * x) + ones y) e (sym (get_or_past ws b t ge)))
+      let e : b ≡ length ws = omega arith in
+      rw (get_or_past ws b t ge, all_ones (64 * (b + 1)) (omega (arith, h.tailed.few)), e) (ones_all ws t k h.tailed))
       (cases_lt b (length ws))
 
   -- no one is left in the word at or after bit r
   pub rank_rest : (r : ℕ) → r < 64 → 64 * b + r ≤ 64 * length ws + k → get_or ws b t / 2 ^ r ≡ 0 → rank_of (bits_of ws t k) (64 * (b + 1)) ≡ rank_of (bits_of ws t k) (64 * b + r)
   rank_rest r lt inside none =
-      let whole : get_or ws b t % 2 ^ r ≡ get_or ws b t = omega (arith, split (get_or ws b t) r, ap (λ (x : ℕ). x * 2 ^ r) none) in
-      rank_next ∙ ap (λ (x : ℕ). rank_of (bits_of ws t k) (64 * b) + ones x) (sym whole) ∙ sym (rank_place ws t k b r le (omega arith) inside)
+      let whole = rw none at (split (get_or ws b t) r) in
+      let same : get_or ws b t % 2 ^ r ≡ get_or ws b t = omega (arith, whole) in
+      rw (rank_place ws t k b r le (omega arith) inside, same) rank_next
 
   -- there is one
   pub first_in : (r w : ℕ) → r < 64 → 64 * b + r ≤ 64 * length ws + k → w ≡ get_or ws b t → w < 2 ^ 64 → 0 < w / 2 ^ r → first_from (bits_of ws t k) (64 * b + r) ≡ Some (64 * b + (r + count_trailing_zeros 64 (w / 2 ^ r)))
   first_in r w lt inside is fit some =
-      let at : rank_of (bits_of ws t k) (64 * b + r) ≡ rank_of (bits_of ws t k) (64 * b) + ones (w % 2 ^ r) =
-      rank_place ws t k b r le (omega arith) inside ∙ ap (λ (x : ℕ). rank_of (bits_of ws t k) (64 * b) + ones (x % 2 ^ r)) (sym is) in
-      let one : Selected (low_bits 64 (get_or ws b t)) (ones (w % 2 ^ r)) (r + count_trailing_zeros 64 (w / 2 ^ r)) =
-      subst (λ (x : ℕ). Selected (low_bits 64 x) (ones (w % 2 ^ r)) (r + count_trailing_zeros 64 (w / 2 ^ r))) is (first_above w r fit some) in
-      ap (select_of (bits_of ws t k)) at
-      ∙ select_some (bits_of ws t k) (rank_of (bits_of ws t k) (64 * b) + ones (w % 2 ^ r)) (64 * b + (r + count_trailing_zeros 64 (w / 2 ^ r))) (selected_in ws t k b (ones (w % 2 ^ r)) (r + count_trailing_zeros 64 (w / 2 ^ r)) le h.tailed one)
+      let one = rw is at (first_above w r fit some) in
+      rw (rank_place ws t k b r le (omega arith) inside, is)
+      (select_some (bits_of ws t k) _ _ (selected_in ws t k b _ _ le h.tailed one))
 
 -- past the last word there is none
 pub first_past : (ws : List ℕ) (t k b : ℕ) → Held ws t k → length ws < b → select_of (bits_of ws t k) (rank_of (bits_of ws t k) (64 * b)) ≡ None
@@ -92,15 +88,13 @@ first_past ws t k b h gt =
     select_none (bits_of ws t k) (rank_of (bits_of ws t k) (64 * b)) (omega (arith, all_ones ws t k 0 h (omega arith) (64 * b) (omega (arith, h.tailed.few))))
 
 no_more : (bs : List Bool) (p d : ℕ) → ((j : ℕ) → p ≤ j → j < p + d → get_or bs j false ≡ false) → rank_of bs (p + d) ≡ rank_of bs p
-no_more bs p zero none = ap (rank_of bs) (add-zero p)
+no_more bs p zero none = rw add-zero refl
 no_more bs p (suc d) none =
     let e : p + suc d ≡ (p + d) + 1 = omega arith in
-    ap (rank_of bs) e ∙ rank_step bs (p + d)
-    ∙ ap₂ (λ (x : ℕ) (y : Bool). x + cond y 1 0) (no_more bs p d (λ j l m. none j l (omega arith))) (none (p + d) (omega arith) (omega arith))
-    ∙ add-zero (rank_of bs p)
+    rw (e, rank_step bs (p + d), none (p + d) (omega arith) (omega arith), add-zero) (no_more bs p d (λ j l m. none j l (omega arith)))
 
 one_more : (bs : List Bool) (j : ℕ) → get_or bs j false ≡ true → rank_of bs (j + 1) ≡ rank_of bs j + 1
-one_more bs j e = rank_step bs j ∙ ap (λ (y : Bool). rank_of bs j + cond y 1 0) e
+one_more bs j e = rw (rank_step bs j, e) refl
 
 pub first_finds_lem : FirstFinds
 first_finds_lem bs p q = (
@@ -121,7 +115,7 @@ first_finds_lem bs p q = (
       let e : p + (q - p) ≡ q = omega (arith, f.from) in
       select_some bs (rank_of bs p) q (record {
         one = f.one;
-        rank = ap (rank_of bs) (sym e) ∙ no_more bs p (q - p) (λ j l m. f.none j l (omega (arith, m, e)));
+        rank = rw e at (no_more bs p (q - p) (λ j l m. f.none j l (omega (arith, m, e))));
       })),
 )
 
@@ -142,16 +136,12 @@ module _ (ws : List ℕ) (t k b w : ℕ) (h : Held ws t k) (le : b ≤ length ws
   pub first_word : w < 2 ^ 64 → (w ≡ 0 → ⊥) → first_from (bits_of ws t k) (64 * b) ≡ Some (64 * b + count_trailing_zeros 64 w)
   first_word fit some =
       let same : w / 2 ^ 0 ≡ w = div-one w in
-      let pos : 0 < w / 2 ^ 0 = omega (arith, some, same) in
-      ap (first_from (bits_of ws t k)) (sym (add-zero (64 * b)))
-      ∙ first_in ws t k b h le 0 w (lit< tt) (omega arith) is fit pos
-      ∙ ap (λ (x : ℕ). Some (64 * b + x)) (zero-add (count_trailing_zeros 64 (w / 2 ^ 0)) ∙ ap (count_trailing_zeros 64) same)
+      let first = first_in ws t k b h le 0 w (omega arith) (omega arith) is fit (omega (arith, some, same)) in
+      rw (same, add-zero, zero-add) at first
 
   -- a word without
   pub rank_skip : w ≡ 0 → rank_of (bits_of ws t k) (64 * (b + 1)) ≡ rank_of (bits_of ws t k) (64 * b)
-  rank_skip none =
-      rank_next ws t k b h le ∙ ap (λ (x : ℕ). rank_of (bits_of ws t k) (64 * b) + ones x) (sym is ∙ none)
-      ∙ ap (λ (x : ℕ). rank_of (bits_of ws t k) (64 * b) + x) ones_zero ∙ add-zero (rank_of (bits_of ws t k) (64 * b))
+  rank_skip none = rw (← is, none, ones_zero, add-zero) at (rank_next ws t k b h le)
 
 -- the same from a place that need not be split by hand
 module _ (ws : List ℕ) (t k i w : ℕ) (h : Held ws t k) (inside : i ≤ 64 * length ws + k) (is : w ≡ get_or ws (i / 64) t) where
@@ -162,15 +152,11 @@ module _ (ws : List ℕ) (t k i w : ℕ) (h : Held ws t k) (inside : i ≤ 64 * 
   within = omega (arith, div-add-mod i 64)
 
   few : i % 64 < 64
-  few = mod_below i 64 (lit< tt)
+  few = omega arith
 
   pub first_here : w < 2 ^ 64 → (w / 2 ^ (i % 64) ≡ 0 → ⊥) → first_from (bits_of ws t k) i ≡ Some (i + count_trailing_zeros 64 (w / 2 ^ (i % 64)))
   first_here fit some =
-      ap (first_from (bits_of ws t k)) (sym (div-add-mod i 64))
-      ∙ first_in ws t k (i / 64) h block (i % 64) w few within is fit (omega (arith, some))
-      ∙ ap Some (sym (add_assoc (64 * (i / 64)) (i % 64) (count_trailing_zeros 64 (w / 2 ^ (i % 64)))) ∙ ap (λ (x : ℕ). x + count_trailing_zeros 64 (w / 2 ^ (i % 64))) (div-add-mod i 64))
+      rw (← add_assoc, div-add-mod i 64) at (first_in ws t k (i / 64) h block (i % 64) w few within is fit (omega (arith, some)))
 
   pub rank_on : w / 2 ^ (i % 64) ≡ 0 → rank_of (bits_of ws t k) (64 * (i / 64 + 1)) ≡ rank_of (bits_of ws t k) i
-  rank_on none =
-      rank_rest ws t k (i / 64) h block (i % 64) few within (ap (λ (x : ℕ). x / 2 ^ (i % 64)) (sym is) ∙ none)
-      ∙ ap (rank_of (bits_of ws t k)) (div-add-mod i 64)
+  rank_on none = rw (div-add-mod i 64) at (rank_rest ws t k (i / 64) h block (i % 64) few within (rw (← is) none))

@@ -1,14 +1,15 @@
 -- The words, tail and counts that are worked out from bits.
-use Rattle.std.proofs.Common.{◌≡◌, ℕ, zero, suc, ◌+◌, ◌*◌, ◌/◌, ◌%◌, ◌^◌, ◌<◌, ◌≤◌, Bool, true, false, cond, eqb, List, [], ◌∷◌, length, get_or, take, drop, sym, refl, ap, ◌∙◌, subst, pow-suc, arith, length-drop, length-take, take-add, pow_mono}
+use Rattle.std.proofs.Common.{◌≡◌, ℕ, zero, suc, ◌+◌, ◌*◌, ◌/◌, ◌%◌, ◌^◌, ◌<◌, ◌≤◌, Bool, true, false, cond, eqb, List, [], ◌∷◌, length, get_or, take, drop, refl, ap, pow-suc, add-zero, zero-add, arith, length-drop, length-take, take-add, pow_mono}
 use Rattle.std.proofs.lemmas.List.{take-append-drop, length-take-le}
+use Rattle.std.proofs.lemmas.Bool.Decides.{nat_tests}
 use Rattle.bitlaws.specs.Bits.{most_bits, low_bits, word_bits, bits_of, rank_of, Words64, Tailed, Held, Counted}
 use Rattle.bitlaws.specs.Forms.{bits_value, words_from, full_words, tail_word, tail_bits, counts_from, counts_of}
 use Rattle.bitlaws.specs.Laws.{FormHolds}
 
 -- a number, one digit on
 digit : (b : Bool) (v : ℕ) → eqb ((cond b 1 0 + 2 * v) % 2) 1 ≡ b
-digit true v = let e : (1 + 2 * v) % 2 ≡ 1 = omega arith in rw e
-digit false v = let e : (0 + 2 * v) % 2 ≡ 0 = omega arith in rw e
+digit true v = grind (arith, nat_tests)
+digit false v = grind (arith, nat_tests)
 
 shifted : (b : Bool) (v : ℕ) → (cond b 1 0 + 2 * v) / 2 ≡ v
 shifted true v = omega arith
@@ -17,7 +18,7 @@ shifted false v = omega arith
 pub low_value : (bs : List Bool) → low_bits (length bs) (bits_value bs) ≡ bs
 unfolding low_bits bits_value
 low_value [] = refl
-low_value (b ∷ bs) = rw (digit b (bits_value bs), shifted b (bits_value bs)) (ap (λ l. b ∷ l) (low_value bs))
+low_value (b ∷ bs) = rw (digit b (bits_value bs), shifted b (bits_value bs), low_value bs) refl
 
 pub value_below : (bs : List Bool) → bits_value bs < 2 ^ length bs
 unfolding bits_value
@@ -36,10 +37,10 @@ unfolding word_bits words_from
 words_hold zero bs h = refl
 words_hold (suc n) bs h =
     let l : length (take 64 bs) ≡ 64 = length-take-le 64 bs (omega arith) in
-    let a : low_bits 64 (bits_value (take 64 bs)) ≡ take 64 bs = subst (λ k. low_bits k (bits_value (take 64 bs)) ≡ take 64 bs) l (low_value (take 64 bs)) in
+    let a = rw l at (low_value (take 64 bs)) in
     let b = words_hold n (drop 64 bs) (omega (arith, length-drop 64 bs)) in
-    let e : 64 + 64 * n ≡ 64 * suc n = omega arith in
-    rw (a, b) (sym (take-add 64 (64 * n) bs) ∙ ap (λ k. take k bs) e)
+    let e : 64 * suc n ≡ 64 + 64 * n = omega arith in
+    rw (a, b, e, take-add 64 (64 * n) bs) refl
 
 pub words_fit : (n : ℕ) (bs : List Bool) → Words64 (words_from n bs)
 unfolding words_from
@@ -57,11 +58,11 @@ length_counts (suc n) j bs = ap suc (length_counts n (j + 1) bs)
 
 pub count_at : (n j i : ℕ) (bs : List Bool) → i < n → get_or (counts_from n j bs) i 0 ≡ rank_of bs (1024 * (j + i + 1))
 unfolding counts_from
-count_at zero j i bs h = let z : ⊥ = omega arith in elim z [ ]
-count_at (suc n) j zero bs h = let e : 1024 * (j + 1) ≡ 1024 * (j + 0 + 1) = omega arith in ap (rank_of bs) e
+count_at zero j i bs h = absurd (omega arith)
+count_at (suc n) j zero bs h = rw add-zero refl
 count_at (suc n) j (suc i) bs h =
-    let e : 1024 * (j + 1 + i + 1) ≡ 1024 * (j + suc i + 1) = omega arith in
-    count_at n (j + 1) i bs (omega arith) ∙ ap (rank_of bs) e
+    let e : j + suc i ≡ j + 1 + i = omega arith in
+    rw e (count_at n (j + 1) i bs (omega arith))
 
 module _ (bs : List Bool) where
   rest_length : length (drop (64 * (length bs / 64)) bs) ≡ tail_bits bs
@@ -72,11 +73,11 @@ module _ (bs : List Bool) where
   form_bits =
       let n = length bs / 64 in
       let a = words_hold n bs (omega arith) in
-      let b : low_bits (tail_bits bs) (tail_word bs) ≡ drop (64 * n) bs = subst (λ k. low_bits k (tail_word bs) ≡ drop (64 * n) bs) rest_length (low_value (drop (64 * n) bs)) in
+      let b = rw rest_length at (low_value (drop (64 * n) bs)) in
       rw (a, b) (take-append-drop (64 * n) bs)
 
   tailed : Tailed (tail_word bs) (tail_bits bs)
-  tailed = record { few = omega arith; clean = subst (λ k. tail_word bs < 2 ^ k) rest_length (value_below (drop (64 * (length bs / 64)) bs)) }
+  tailed = record { few = omega arith; clean = rw rest_length at (value_below (drop (64 * (length bs / 64)) bs)) }
 
   held : length bs ≤ most_bits → Held (full_words bs) (tail_word bs) (tail_bits bs)
   held h = record { fit = words_fit (length bs / 64) bs; tailed = tailed; small = omega (arith, length_from (length bs / 64) bs) }
@@ -87,8 +88,8 @@ module _ (bs : List Bool) where
       let m = length_counts n 0 bs in
       record {
         many = m;
-        each = λ j h. let e : 1024 * (0 + j + 1) ≡ 1024 * (j + 1) = omega arith in count_at n 0 j bs (omega (arith, m, h)) ∙ ap (rank_of bs) e;
+        each = λ j h. rw zero-add at (count_at n 0 j bs (omega (arith, m, h)));
       }
 
 pub form_holds_lem : FormHolds
-form_holds_lem bs h = (form_bits bs, record { held = held bs h; counted = subst (Counted (counts_of bs)) (sym (form_bits bs)) (counted bs) })
+form_holds_lem bs h = (form_bits bs, record { held = held bs h; counted = rw (form_bits bs) (counted bs) })

@@ -1,7 +1,7 @@
 -- What rank means.
-use Rattle.std.proofs.Common.{◌≡◌, ℕ, zero, suc, ◌+◌, ◌-◌, ◌<◌, ◌≤◌, Bool, true, false, cond, List, [], ◌∷◌, ◌++◌, length, get_or, take, sym, refl, ap, ◌∙◌, subst, ⊎_elim, not-suc-le-zero, add-zero, add-one, arith}
+use Rattle.std.proofs.Common.{◌≡◌, ℕ, zero, suc, ◌+◌, ◌-◌, ◌<◌, ◌≤◌, Bool, true, false, cond, List, [], ◌∷◌, ◌++◌, length, get_or, take, sym, refl, ap, ◌∙◌, ⊎_elim, not-suc-le-zero, add-zero, add-one, arith}
 use Rattle.std.proofs.lemmas.List.{take_more, take_all, get_or_past, get_or_push, get_or_append_left, length_push}
-use Rattle.std.proofs.lemmas.Bool.{cases_lt, cases_Bool, true≢false}
+use Rattle.std.proofs.lemmas.Bool.{cases_lt, cases_Bool}
 use Rattle.bitlaws.specs.Bits.{ones_among, rank_of}
 use Rattle.bitlaws.specs.Laws.{OnesBelow, RankCounts, RankSteps, RankRises}
 use Rattle.bitlaws.proofs.Words.{ones_among_append, rank_none}
@@ -15,26 +15,22 @@ pub rank_step : (bs : List Bool) (i : ℕ) → rank_of bs (i + 1) ≡ rank_of bs
 rank_step bs i = ⊎_elim inside past (cases_lt i (length bs))
   where
     inside : i < length bs → rank_of bs (i + 1) ≡ rank_of bs i + cond (get_or bs i false) 1 0
-    inside h =
-        ap ones_among (take_more bs i false h) ∙ ones_among_append (take i bs) (get_or bs i false ∷ [])
-        ∙ ap (λ (x : ℕ). rank_of bs i + x) (one_bit (get_or bs i false))
+    inside h = rw (take_more bs i false h, ones_among_append (take i bs) (get_or bs i false ∷ []), one_bit (get_or bs i false)) refl
 
     past : length bs ≤ i → rank_of bs (i + 1) ≡ rank_of bs i + cond (get_or bs i false) 1 0
-    past h =
-        ap ones_among (take_all (i + 1) bs (omega arith) ∙ sym (take_all i bs h))
-        ∙ sym (add-zero (rank_of bs i)) ∙ ap (λ (x : Bool). rank_of bs i + cond x 1 0) (sym (get_or_past bs i false h))
+    past h = rw (take_all (i + 1) bs (omega arith), take_all i bs h, get_or_past bs i false h) (sym (add-zero (ones_among bs)))
 
 pub rank_steps_lem : RankSteps
 rank_steps_lem bs = (rank_none bs, rank_step bs)
 
 rank_more : (bs : List Bool) (i d : ℕ) → rank_of bs i ≤ rank_of bs (i + d)
-rank_more bs i zero = omega (arith, ap (rank_of bs) (add-zero i))
+rank_more bs i zero = rw add-zero (omega arith)
 rank_more bs i (suc d) =
     let next : i + suc d ≡ (i + d) + 1 = omega arith in
-    omega (arith, rank_more bs i d, rank_step bs (i + d), ap (rank_of bs) next)
+    rw next (omega (arith, rank_more bs i d, rank_step bs (i + d)))
 
 pub rank_rises_lem : RankRises
-rank_rises_lem bs i j h = let e : i + (j - i) ≡ j = omega arith in subst (λ (x : ℕ). rank_of bs i ≤ rank_of bs x) e (rank_more bs i (j - i))
+rank_rises_lem bs i j h = let e : i + (j - i) ≡ j = omega arith in rw e at (rank_more bs i (j - i))
 
 -- one place more among those that are counted
 with_one : (bs : List Bool) (i n : ℕ) → get_or bs i false ≡ true → OnesBelow bs i n → OnesBelow bs (i + 1) (n + 1)
@@ -55,10 +51,10 @@ with_one bs i n bit h =
           (cases_lt b (length ps));
       ones = λ a l. ⊎_elim
           (λ (small : a < length ps).
-          (omega (arith, (h.ones a small).0, old a small), ap (λ (x : ℕ). get_or bs x false) (old a small) ∙ (h.ones a small).1))
+          (omega (arith, (h.ones a small).0, old a small), rw (old a small) (h.ones a small).1))
           (λ (big : length ps ≤ a).
           let at : length ps ≡ a = omega (arith, long) in
-          (omega (arith, last a at), ap (λ (x : ℕ). get_or bs x false) (last a at) ∙ bit))
+          (omega (arith, last a at), rw (last a at) bit))
           (cases_lt a (length ps));
       all = λ p l one. ⊎_elim
           (λ (small : p < i).
@@ -76,18 +72,15 @@ without bs i n bit h = record {
   ones = λ a l. (omega (arith, (h.ones a l).0), (h.ones a l).1);
   all = λ p l one. ⊎_elim
       (λ (small : p < i). h.all p small one)
-      (λ (big : i ≤ p). let e : p ≡ i = omega arith in absurd (true≢false (sym one ∙ ap (λ (x : ℕ). get_or bs x false) e ∙ bit)))
+      (λ (big : i ≤ p). let e : p ≡ i = omega arith in let one_at = rw e at one in absurd (cc))
       (cases_lt p i);
 }
 
 counts_next : (bs : List Bool) (i : ℕ) → OnesBelow bs i (rank_of bs i) → OnesBelow bs (i + 1) (rank_of bs (i + 1))
 counts_next bs i h = ⊎_elim
-    (λ (e : get_or bs i false ≡ true). subst (λ (x : ℕ). OnesBelow bs (i + 1) x) (sym (grown true e)) (with_one bs i (rank_of bs i) e h))
-    (λ (e : get_or bs i false ≡ false). subst (λ (x : ℕ). OnesBelow bs (i + 1) x) (sym (grown false e ∙ add-zero (rank_of bs i))) (without bs i (rank_of bs i) e h))
+    (λ (e : get_or bs i false ≡ true). rw (rank_step bs i, e) (with_one bs i (rank_of bs i) e h))
+    (λ (e : get_or bs i false ≡ false). rw (rank_step bs i, e, add-zero) (without bs i (rank_of bs i) e h))
     (cases_Bool (get_or bs i false))
-  where
-    grown : (b : Bool) → get_or bs i false ≡ b → rank_of bs (i + 1) ≡ rank_of bs i + cond b 1 0
-    grown b e = rank_step bs i ∙ ap (λ (x : Bool). rank_of bs i + cond x 1 0) e
 
 pub rank_counts_lem : RankCounts
 rank_counts_lem bs zero = record {
@@ -97,4 +90,4 @@ rank_counts_lem bs zero = record {
   ones = λ a l. absurd (not-suc-le-zero l);
   all = λ p l one. absurd (not-suc-le-zero l);
 }
-rank_counts_lem bs (suc i) = subst (λ (x : ℕ). OnesBelow bs x (rank_of bs x)) (add-one i) (counts_next bs i (rank_counts_lem bs i))
+rank_counts_lem bs (suc i) = rw (← add-one i) (counts_next bs i (rank_counts_lem bs i))

@@ -4,8 +4,9 @@ use native.Mathlib.Nat.{div-eq_of_lt}
 use Rattle.std.proofs.lemmas.Nat.{mod_below, pow_pos, le-div}
 use Rattle.std.proofs.lemmas.List.{length_push}
 use Rattle.std.proofs.lemmas.Bool.{and_parts, leb-true, ltb-true, eq-eqb, ne_eqb, le-leb, lt-ltb, le-ltb, lt-leb, cases_lt}
-use Rattle.bitlaws.specs.Bits.{most_bits, low_bits, word_bits, bits_of, Words64, Held}
+use Rattle.bitlaws.specs.Bits.{most_bits, low_bits, word_bits, bits_of, Words64, Held, Counted}
 use mir.Val.{bool_byte}
+use Rattle.bitlaws.proofs.Words.{length_bits}
 use Rattle.bitlaws.proofs.Groups.{low_one, bits_carry, bits_group, fit_push, joined_lt, rest_lt}
 use Rattle.bits.specs.Columns.{fits_words, fits, push_answer, push_list, lawful_group}
 
@@ -49,7 +50,14 @@ module _ (ws : List ℕ) (t k : ℕ) (we : ws ≡ []) (te : t ≡ 0) (ke : k ≡
   }
 
 -- a group of n bits, the number a, behind the tail
-module _ (ws : List ℕ) (t k a n : ℕ) (h : Held ws t k) (small : a < 2 ^ n) (size : 64 * length ws + k + n ≤ most_bits) where
+module _ (ws : List ℕ) (t k a n v : ℕ) (h : Held ws t k) (small : a < 2 ^ n) (limit : fits_words (length (bits_of ws t k) + n) v ≡ true) where
+  size : 64 * length ws + k + n ≤ most_bits
+  size = omega (arith, (fits_parts (length (bits_of ws t k) + n) v limit).0, length_bits ws t k)
+
+  -- there is room for the word that it fills
+  pub word_room : 64 ≤ k + n → length ws < v
+  word_room full = omega (arith, (fits_parts (length (bits_of ws t k) + n) v limit).1, length_bits ws t k)
+
   -- it stays in the tail
   module _ (t' k' : ℕ) (te : t' ≡ a * 2 ^ k + t) (ke : k' ≡ k + n) (room : k + n < 64) where
     pub tail_list : bits_of ws t' k' ≡ bits_of ws t k ++ low_bits n a
@@ -62,7 +70,7 @@ module _ (ws : List ℕ) (t k a n : ℕ) (h : Held ws t k) (small : a < 2 ^ n) (
         few = omega arith;
         clean = subst₂ (λ (x y : ℕ). x < 2 ^ y) (sym te) (sym ke) (joined_lt t k a h.tailed.clean n small);
       };
-      small = omega arith;
+      small = omega (arith, size);
     }
 
   -- it fills a word, and the rest is the tail
@@ -82,7 +90,7 @@ module _ (ws : List ℕ) (t k a n : ℕ) (h : Held ws t k) (small : a < 2 ^ n) (
         few = omega (arith, h.tailed.few);
         clean = subst₂ (λ (x y : ℕ). x < 2 ^ y) (sym te) (sym ke) (rest_lt t k a h.tailed.clean n (k + n - 64) small (omega arith));
       };
-      small = omega (arith, ap length we, length_push ws ((a * 2 ^ k + t) % 2 ^ 64));
+      small = omega (arith, size, ap length we, length_push ws ((a * 2 ^ k + t) % 2 ^ 64));
     }
 
 pub fits_all : (n v k : ℕ) → fits n v k ≡ true → (fits_words n v ≡ true) × (n / 1024 ≤ k)
@@ -138,3 +146,9 @@ fits_less m n v k h e =
     let p = fits_all n v k e in
     let q = fits_parts n v p.0 in
     fits_made m v k (omega (arith, h, q.0)) (omega (arith, h, q.1)) (omega (arith, h, p.1))
+
+-- one bit more that stays in the tail passes no limit
+pub fits_tail : (ws cs : List ℕ) (t k v n : ℕ) → Held ws t k → Counted cs (bits_of ws t k) → k < 63 → length ws ≤ v → length cs ≤ n → fits (length (bits_of ws t k) + 1) v n ≡ true
+fits_tail ws cs t k v n h counted few words counts =
+    let long = length_bits ws t k in
+    fits_made (length (bits_of ws t k) + 1) v n (omega (arith, long, h.small)) (omega (arith, long, words)) (omega (arith, long, counted.many, counts))

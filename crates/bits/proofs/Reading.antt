@@ -1,11 +1,11 @@
 -- What the reading calls answer, over the words and the tail.
-use Rattle.std.proofs.Common.{◌≡◌, ℕ, ◌+◌, ◌-◌, ◌*◌, ◌/◌, ◌%◌, ◌^◌, ◌<◌, ◌≤◌, Bool, false, eqb, List, length, get_or, Ok, Option, sym, ap, ◌∙◌, ap₂, arith}
+use Rattle.std.proofs.Common.{◌≡◌, ℕ, zero, suc, ◌+◌, ◌-◌, ◌*◌, ◌/◌, ◌%◌, ◌^◌, ◌<◌, ◌≤◌, Bool, false, cond, eqb, ltb, List, length, get_or, Ok, Option, sym, ap, ◌∙◌, ap₂, arith}
 use lib.Bits.{bit_and, and_mask}
 use lib.Count.{ones}
 use Rattle.std.proofs.lemmas.Bool.{lt-ltb, le-leb}
 use Rattle.bitlaws.specs.Bits.{bits_of, rank_of, first_from}
 use Rattle.bitlaws.proofs.Groups.{masked}
-use Rattle.bitlaws.proofs.Words.{length_bits, bit_at, rank_at}
+use Rattle.bitlaws.proofs.Words.{length_bits, bit_at, rank_at, rank_none}
 use Rattle.bits.specs.Columns.{get_answer, rank_answer, first_answer}
 
 module _ (ws : List ℕ) (t k i w : ℕ) (few : k < 64) (is : w ≡ get_or ws (i / 64) t) where
@@ -26,3 +26,11 @@ rank_is bs i n h e = ap Ok e ∙ simp (le-leb i (length bs) h)
 
 pub first_is : (bs : List Bool) (i : ℕ) (o : Option ℕ) → i ≤ length bs → o ≡ first_from bs i → Ok o ≡ first_answer bs i
 first_is bs i o h e = ap Ok e ∙ simp (le-leb i (length bs) h)
+
+-- the ones before chunk n: the count of the chunk before it
+pub before_is : (cs : List ℕ) (bs : List Bool) (n : ℕ) → ((j : ℕ) → j < length cs → get_or cs j 0 ≡ rank_of bs (1024 * (j + 1))) → n ≤ length cs → cond (ltb 0 n) (get_or cs (n - 1) 0) 0 ≡ rank_of bs (1024 * n)
+before_is cs bs zero each h = sym (rank_none bs)
+before_is cs bs (suc n) each h =
+    let at : 1024 * (n + 1) ≡ 1024 * suc n = omega arith in
+    let last : suc n - 1 ≡ n = omega arith in
+    ap (λ (x : Bool). cond x (get_or cs (suc n - 1) 0) 0) (lt-ltb 0 (suc n) (omega arith)) ∙ ap (λ (x : ℕ). get_or cs x 0) last ∙ each n (omega arith) ∙ ap (rank_of bs) at

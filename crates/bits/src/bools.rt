@@ -1,27 +1,29 @@
 ghost use Rattle.std.specs.Prelude.{◌≡◌, ℕ, ◌+◌, ◌*◌, ◌/◌, ◌^◌, ◌<◌, ◌≤◌, true, List, [], ◌∷◌, ◌++◌, length, take, drop, Ok, Err, count_ones, slice_index, slice_index_or};
-ghost use Rattle.bitlaws.specs.Bits.{most_bits, low_bits, rank_of, first_from};
-ghost use Rattle.bits.specs.Columns.{HeldIn, bits_in, get_answer, first_answer, fits_words, push_answer, push_list};
+ghost use Rattle.std.proofs.Props.{props};
+ghost use Rattle.bitlaws.specs.Bits.{most_bits, low_bits, rank_of, first_from, Held};
 
 use crate::tail::{Tail, WORD};
 use refusals::fault::Fault;
-use words::reading::{GrowWords, MOST, ReadWords, put_in, word_of};
+use words::reading::{GrowStore, MOST, Owned, ReadStore, put_in, word_of};
 
 pub mod growing;
 
-// Bits packed into full words and a tail, which is held as its two numbers.
+// Bits packed into full words and a tail.
 #[derive(Drop)]
-pub struct Bools<V: ReadWords> {
+pub struct Bools<V: ReadStore<Item = u64>> {
     values: V,
-    word: u64,
-    bits: usize,
+    tail: Tail,
+    owned: Owned,
+    ghost held: { Held (V.ReadStore.list values) tail.word tail.bits } by { Prim.hlevel props },
 }
 
-impl<V: ReadWords> Bools<V> {
+impl<V: ReadStore<Item = u64>> Bools<V> {
+    ghost use Rattle.bits.specs.Columns.{bits_in, get_answer, first_answer};
+
     pub fn len(&self) -> usize
-        requires { HeldIn V.ReadWords self.now }
-        ensures { result ≡ length (bits_in V.ReadWords self.now) }
+        ensures { result ≡ length (bits_in V.ReadStore self.now) }
     {
-        WORD * self.values.len() + self.bits
+        WORD * self.values.len() + self.tail.bits
     }
 
     // The store of the full words.
@@ -31,34 +33,27 @@ impl<V: ReadWords> Bools<V> {
         &self.values
     }
 
-    // The tail, with what soundness says of its two numbers in its type.
+    // The bits behind the last full word.
     pub fn tail(&self) -> Tail
-        requires { HeldIn V.ReadWords self.now }
-        ensures word { result.word ≡ self.now.word }
-        ensures bits { result.bits ≡ self.now.bits }
+        ensures { result ≡ self.now.tail }
     {
-        Tail {
-            word: self.word,
-            bits: self.bits,
-        }
+        self.tail
     }
 
     // Word `block`, or the tail's behind the last.
     pub(crate) fn word(&self, block: usize) -> u64
-        requires { block ≤ length (V.ReadWords.words self.now.values) }
-        ensures { result ≡ slice_index_or (V.ReadWords.words self.now.values) block self.now.word }
+        requires { block ≤ length (V.ReadStore.list self.now.values) }
+        ensures { result ≡ slice_index_or (V.ReadStore.list self.now.values) block self.now.tail.word }
     {
         if block == self.values.len() {
-            self.word
-        } else {
-            word_of(&self.values, block)
+            return self.tail.word;
         }
+        word_of(&self.values, block)
     }
 
     // Bit `index`, refused with 1 outside.
     pub fn get(&self, index: usize) -> Result<bool, Fault>
-        requires { HeldIn V.ReadWords self.now }
-        ensures { result ≡ get_answer (bits_in V.ReadWords self.now) index }
+        ensures { result ≡ get_answer (bits_in V.ReadStore self.now) index }
     {
         if index >= self.len() {
             return Err(Fault::Outside(index));
@@ -69,10 +64,9 @@ impl<V: ReadWords> Bools<V> {
 
     // The ones in the first `upper` words, from those in the first `lower`.
     pub(crate) fn ones_up_to(&self, mut count: usize, lower: usize, upper: usize) -> usize
-        requires held { HeldIn V.ReadWords self.now }
-        requires within { (lower ≤ upper) × (upper ≤ length (V.ReadWords.words self.now.values)) }
-        requires counted { count ≡ rank_of (bits_in V.ReadWords self.now) (64 * lower) }
-        ensures { result ≡ rank_of (bits_in V.ReadWords self.now) (64 * upper) }
+        requires within { (lower ≤ upper) × (upper ≤ length (V.ReadStore.list self.now.values)) }
+        requires counted { count ≡ rank_of (bits_in V.ReadStore self.now) (64 * lower) }
+        ensures { result ≡ rank_of (bits_in V.ReadStore self.now) (64 * upper) }
     {
         for pos in lower..upper {
             count += word_of(&self.values, pos).count_ones() as usize;
@@ -81,47 +75,43 @@ impl<V: ReadWords> Bools<V> {
     }
 
     // The word with the one that `rank` ones stand before, or the tail's number, from the ones in the
-    // first `block` words on; and the ones before it.
-    pub(crate) fn word_with(&self, rank: u64, mut block: usize, mut count: u64) -> (usize, u64)
-        requires held { HeldIn V.ReadWords self.now }
-        requires within { block ≤ length (V.ReadWords.words self.now.values) }
-        requires counted { count ≡ rank_of (bits_in V.ReadWords self.now) (64 * block) }
+    // first `start` words on; and the ones before it.
+    pub(crate) fn word_with(&self, rank: u64, start: usize, mut count: u64) -> (usize, u64)
+        requires within { start ≤ length (V.ReadStore.list self.now.values) }
+        requires counted { count ≡ rank_of (bits_in V.ReadStore self.now) (64 * start) }
         requires below { count ≤ rank }
-        ensures within { result.0 ≤ length (V.ReadWords.words self.now.values) }
-        ensures counted { result.1 ≡ rank_of (bits_in V.ReadWords self.now) (64 * result.0) }
+        ensures within { result.0 ≤ length (V.ReadStore.list self.now.values) }
+        ensures counted { result.1 ≡ rank_of (bits_in V.ReadStore self.now) (64 * result.0) }
         ensures below { result.1 ≤ rank }
-        ensures above { result.0 < length (V.ReadWords.words self.now.values) → rank < result.1 + count_ones (slice_index (V.ReadWords.words self.now.values) result.0) }
+        ensures above { result.0 < length (V.ReadStore.list self.now.values) → rank < result.1 + count_ones (slice_index (V.ReadStore.list self.now.values) result.0) }
     {
-        while block < self.values.len() {
+        let end = self.values.len();
+        for block in start..end {
             let pop = word_of(&self.values, block).count_ones() as u64;
             if count + pop > rank {
-                break;
+                return (block, count);
             }
             count += pop;
-            block += 1;
         }
-        (block, count)
+        (end, count)
     }
 
-    // The first one in word `block` or behind it, the tail's included, or none.
-    fn first_in(&self, mut block: usize) -> Option<usize>
-        requires { HeldIn V.ReadWords self.now }
-        ensures { result ≡ first_from (bits_in V.ReadWords self.now) (64 * block) }
+    // The first one in word `start` or behind it, the tail's included, or none.
+    fn first_in(&self, start: usize) -> Option<usize>
+        ensures { result ≡ first_from (bits_in V.ReadStore self.now) (64 * start) }
     {
-        while block <= self.values.len() {
+        for block in start..=self.values.len() {
             let word = self.word(block);
             if word != 0 {
                 return Some(WORD * block + word.trailing_zeros() as usize);
             }
-            block += 1;
         }
         None
     }
 
     // The first one at or after `pos`, or none; refused with 1 above the length.
     pub fn first_from(&self, pos: usize) -> Result<Option<usize>, Fault>
-        requires { HeldIn V.ReadWords self.now }
-        ensures { result ≡ first_answer (bits_in V.ReadWords self.now) pos }
+        ensures { result ≡ first_answer (bits_in V.ReadStore self.now) pos }
     {
         if pos > self.len() {
             return Err(Fault::Outside(pos));
@@ -136,10 +126,9 @@ impl<V: ReadWords> Bools<V> {
 
     // The bits from `pos` on, of which the lowest `count` are those asked for.
     fn bits_from(&self, pos: usize, count: usize) -> u64
-        requires held { HeldIn V.ReadWords self.now }
         requires count { (0 < count) × (count ≤ 64) }
-        requires within { pos + count ≤ length (bits_in V.ReadWords self.now) }
-        ensures { low_bits count result ≡ take count (drop pos (bits_in V.ReadWords self.now)) }
+        requires within { pos + count ≤ length (bits_in V.ReadStore self.now) }
+        ensures { low_bits count result ≡ take count (drop pos (bits_in V.ReadStore self.now)) }
     {
         let block = pos / WORD;
         let bit = pos % WORD;
@@ -152,10 +141,9 @@ impl<V: ReadWords> Bools<V> {
 
     // The `count` bits from `pos` on, lowest first, and no bit above them.
     pub(crate) fn bits_at(&self, pos: usize, count: usize) -> u64
-        requires held { HeldIn V.ReadWords self.now }
         requires count { (0 < count) × (count ≤ 64) }
-        requires within { pos + count ≤ length (bits_in V.ReadWords self.now) }
-        ensures list { low_bits count result ≡ take count (drop pos (bits_in V.ReadWords self.now)) }
+        requires within { pos + count ≤ length (bits_in V.ReadStore self.now) }
+        ensures list { low_bits count result ≡ take count (drop pos (bits_in V.ReadStore self.now)) }
         ensures clean { result < 2 ^ count }
     {
         let bits = self.bits_from(pos, count);

@@ -1,12 +1,12 @@
-ghost use Rattle.std.specs.Prelude.{◌≡◌, ℕ, ◌+◌, ◌*◌, ◌/◌, ◌^◌, ◌<◌, ◌≤◌, true, List, [], ◌∷◌, ◌++◌, length, Ok, Err, slice_index};
-ghost use Rattle.bitlaws.specs.Bits.{rank_of, select_of, Lagging};
-ghost use Rattle.bits.specs.Columns.{HeldIn, SoundIn, column_bits, get_answer, rank_answer, first_answer, word_or_tail, fits, push_answer, push_list};
+ghost use Rattle.std.specs.Prelude.{◌≡◌, ℕ, ◌+◌, ◌-◌, ◌*◌, ◌/◌, ◌^◌, ◌<◌, ◌≤◌, true, List, [], ◌∷◌, ◌++◌, length, Ok, Err, slice_index, nat_lt, if◌then◌else◌};
+ghost use Rattle.std.proofs.Props.{props};
+ghost use Rattle.bitlaws.specs.Bits.{bits_of, rank_of, select_of, Counted};
 
 use crate::bools::Bools;
 use crate::in_word::select_in_word;
 use crate::tail::WORD;
 use refusals::fault::Fault;
-use words::reading::{GrowWords, ReadWords, put_in, word_of};
+use words::reading::{GrowStore, ReadStore, put_in, word_of};
 
 pub mod growing;
 
@@ -18,15 +18,17 @@ const BITS_PER_CHUNK: usize = 1024;
 // Bits with the number of ones after each whole chunk of 1,024, so that rank reads one count and at
 // most 16 words.
 #[derive(Drop)]
-pub struct RankSelect<C: ReadWords, V: ReadWords> {
+pub struct RankSelect<C: ReadStore<Item = u64>, V: ReadStore<Item = u64>> {
     counts: C,
     values: Bools<V>,
+    ghost counted: { Counted (C.ReadStore.list counts) (bits_of (V.ReadStore.list values.values) values.tail.word values.tail.bits) } by { Prim.hlevel props },
 }
 
-impl<C: ReadWords, V: ReadWords> RankSelect<C, V> {
+impl<C: ReadStore<Item = u64>, V: ReadStore<Item = u64>> RankSelect<C, V> {
+    ghost use Rattle.bits.specs.Columns.{column_bits, get_answer, rank_answer, first_answer, word_or_tail};
+
     pub fn len(&self) -> usize
-        requires { SoundIn C.ReadWords V.ReadWords self.now }
-        ensures { result ≡ length (column_bits V.ReadWords self.now) }
+        ensures { result ≡ length (column_bits V.ReadStore self.now) }
     {
         self.values.len()
     }
@@ -47,16 +49,14 @@ impl<C: ReadWords, V: ReadWords> RankSelect<C, V> {
 
     // Bit `index`, refused with 1 outside.
     pub fn get(&self, index: usize) -> Result<bool, Fault>
-        requires { SoundIn C.ReadWords V.ReadWords self.now }
-        ensures { result ≡ get_answer (column_bits V.ReadWords self.now) index }
+        ensures { result ≡ get_answer (column_bits V.ReadStore self.now) index }
     {
         self.values.get(index)
     }
 
     // Full word `block`, or the tail's behind the last one; refused with 1 past it.
     pub fn word_at(&self, block: usize) -> Result<u64, Fault>
-        requires { SoundIn C.ReadWords V.ReadWords self.now }
-        ensures { result ≡ word_or_tail (V.ReadWords.words self.now.values.values) self.now.values.word block }
+        ensures { result ≡ word_or_tail (V.ReadStore.list self.now.values.values) self.now.values.tail.word block }
     {
         if block > self.values.len() / WORD {
             return Err(Fault::Outside(block));
@@ -66,49 +66,36 @@ impl<C: ReadWords, V: ReadWords> RankSelect<C, V> {
 
     // The first one at or after `pos`, or none; refused with 1 above the length.
     pub fn first_from(&self, pos: usize) -> Result<Option<usize>, Fault>
-        requires { SoundIn C.ReadWords V.ReadWords self.now }
-        ensures { result ≡ first_answer (column_bits V.ReadWords self.now) pos }
+        ensures { result ≡ first_answer (column_bits V.ReadStore self.now) pos }
     {
         self.values.first_from(pos)
     }
 
-    // The ones before chunk `chunk`: the count of the chunk before it.
-    fn before_chunk(&self, chunk: usize) -> usize
-        requires within { chunk ≤ length (C.ReadWords.words self.now.counts) }
-        requires counted { Lagging (C.ReadWords.words self.now.counts) (column_bits V.ReadWords self.now) }
-        ensures { result ≡ rank_of (column_bits V.ReadWords self.now) (1024 * chunk) }
-    {
-        if chunk > 0 {
-            word_of(&self.counts, chunk - 1) as usize
-        } else {
-            0
-        }
-    }
-
     // The number of ones before `index`, refused with 1 above the length.
     pub fn rank(&self, index: usize) -> Result<usize, Fault>
-        requires { SoundIn C.ReadWords V.ReadWords self.now }
-        ensures { result ≡ rank_answer (column_bits V.ReadWords self.now) index }
+        ensures { result ≡ rank_answer (column_bits V.ReadStore self.now) index }
     {
         if index > self.len() {
             return Err(Fault::Outside(index));
         }
         let block = index / WORD;
         let chunk = block / WORDS_PER_CHUNK;
-        let count = self
-            .values
-            .ones_up_to(self.before_chunk(chunk), WORDS_PER_CHUNK * chunk, block);
+        let count = self.values.ones_up_to(
+            before_chunk(&self.counts, chunk),
+            WORDS_PER_CHUNK * chunk,
+            block,
+        );
         let word = self.values.word(block);
         Ok(count + (word & ((1 << (index % WORD)) - 1)).count_ones() as usize)
     }
 
     // The first chunk after which more than `rank` ones stand, by halving over the counts; behind the
-    // last count where there is none.
+    // last count where there is none. A loop by hand: the library has no `partition_point`, and a store
+    // is no slice.
     fn chunk_with(&self, rank: u64) -> usize
-        requires { SoundIn C.ReadWords V.ReadWords self.now }
-        ensures within { result ≤ length (C.ReadWords.words self.now.counts) }
-        ensures below { rank_of (column_bits V.ReadWords self.now) (1024 * result) ≤ rank }
-        ensures above { result < length (C.ReadWords.words self.now.counts) → rank < slice_index (C.ReadWords.words self.now.counts) result }
+        ensures within { result ≤ length (C.ReadStore.list self.now.counts) }
+        ensures below { rank_of (column_bits V.ReadStore self.now) (1024 * result) ≤ rank }
+        ensures above { result < length (C.ReadStore.list self.now.counts) → rank < slice_index (C.ReadStore.list self.now.counts) result }
     {
         let mut lo = 0;
         let mut hi = self.counts.len();
@@ -125,17 +112,26 @@ impl<C: ReadWords, V: ReadWords> RankSelect<C, V> {
 
     // The place of the one that `rank` ones stand before, or none.
     pub fn select(&self, rank: u64) -> Option<usize>
-        requires { SoundIn C.ReadWords V.ReadWords self.now }
-        ensures { result ≡ select_of (column_bits V.ReadWords self.now) rank }
+        ensures { result ≡ select_of (column_bits V.ReadStore self.now) rank }
     {
         let chunk = self.chunk_with(rank);
-        let before = self.before_chunk(chunk);
+        let before = before_chunk(&self.counts, chunk);
         let (block, count) = self
             .values
             .word_with(rank, WORDS_PER_CHUNK * chunk, before as u64);
-        match select_in_word(self.values.word(block), rank - count) {
-            Some(bit) => Some(WORD * block + bit),
-            None => None,
-        }
+        let bit = select_in_word(self.values.word(block), rank - count)?;
+        Some(WORD * block + bit)
+    }
+}
+
+// The ones before chunk `chunk`: the count of the chunk before it.
+pub(crate) fn before_chunk<C: ReadStore<Item = u64>>(counts: &C, chunk: usize) -> usize
+    requires { chunk ≤ length (C.ReadStore.list counts.now) }
+    ensures { result ≡ (if nat_lt 0 chunk then slice_index (C.ReadStore.list counts.now) (chunk - 1) else 0) }
+{
+    if chunk > 0 {
+        word_of(counts, chunk - 1) as usize
+    } else {
+        0
     }
 }

@@ -1,8 +1,7 @@
 -- Bytes in words. A byte is a number below 256. A word holds 8 bytes, lowest first; where bytes end within a
--- word, the rest of it is 0. A buffer holds a list as its first bytes.
-use Rattle.std.specs.Prelude.{ℕ, zero, suc, ◌+◌, ◌*◌, ◌/◌, ◌%◌, min, List, [], ◌∷◌, ◌++◌, length, take, drop}
+-- word, the rest of it is 0.
+use Rattle.std.specs.Prelude.{ℕ, zero, suc, ◌+◌, ◌*◌, ◌/◌, ◌%◌, List, [], ◌∷◌, ◌++◌, length, take, drop}
 use Rattle.store.specs.Layout.{Slice, up}
-use Rattle.columns.specs.Kinds.{most_items}
 
 -- bytes as a number, lowest first
 abbrev pub value : List ℕ → ℕ
@@ -31,11 +30,3 @@ bytes_in (w ∷ ws) = low_bytes 8 w ++ bytes_in ws
 -- the first n bytes of words, or all of them where they are fewer
 abbrev pub part_bytes : List ℕ → ℕ → List ℕ
 part_bytes ws n = take n (bytes_in ws)
-
--- the capacity of a buffer of n bytes
-abbrev pub buffer_room : ℕ → ℕ
-buffer_room n = min most_items n
-
--- the first bytes of a buffer that are in use
-abbrev pub buffer_list : List ℕ → ℕ → List ℕ
-buffer_list bs used = take (min used (buffer_room (length bs))) bs

@@ -1,19 +1,26 @@
 ghost use Rattle.std.specs.Prelude.{◌≡◌, ◌<◌, false, [], ◌∷◌, length};
+ghost use Rattle.std.specs.Coded.{le_prop};
 ghost use Rattle.byte_items.specs.Pack.{bytes_slice, pack};
 ghost use Rattle.std.proofs.Common.{arith, sym, ◌∙◌, ap, rules};
 ghost use Rattle.store.specs.Layout.{up};
 ghost use Rattle.byte_items.specs.Packed.{length_pack, pack_one};
 ghost use Rattle.byte_items.specs.Pack;
 
-use columns::kind::Kind;
+use columns::kind::{Kind, Plain, sole_size};
+use items::items::Items;
 
 // Bytes are stored as one slice, 8 to a word.
 pub enum BytesKind {}
+
+// A column of bytes over any store of them.
+pub type Bytes<S> = Items<S, BytesKind>;
 
 impl Kind<u8> for BytesKind {
     ghost one = { λ _. false };
 
     ghost fit = { λ b. b < 256 };
+
+    ghost alone = { λ _. le_prop };
 
     ghost form = { λ xs. bytes_slice xs ∷ [] };
 
@@ -36,6 +43,10 @@ impl Kind<u8> for BytesKind {
     }
 
     fn element_size(k: usize) -> usize {
-        if k == 0 { 1 } else { 0 }
+        sole_size(k, 1)
     }
+}
+
+impl Plain<u8> for BytesKind {
+    fn fits(_b: u8) {}
 }

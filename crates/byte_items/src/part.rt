@@ -1,12 +1,9 @@
 ghost use Rattle.std.specs.Prelude.{◌≡◌};
 ghost use Rattle.byte_items.specs.Pack.{part_bytes};
 
-use crate::kind::BytesKind;
-use columns::kind::Kind;
-use items::item_store::ReadItems;
 use refusals::fault::Fault;
 use words::part::Part;
-use words::reading::{ReadWords, word_of};
+use words::reading::{ReadStore, word_of};
 
 // The bytes in a word.
 const WORD_BYTES: usize = 8;
@@ -28,13 +25,12 @@ impl<'a> PartBytes<'a> {
     }
 }
 
-impl<'a> ReadItems for PartBytes<'a> {
+impl<'a> ReadStore for PartBytes<'a> {
     type Item = u8;
-
-    type Kind = BytesKind;
 
     ghost list = { λ p. part_bytes p.words.words.now p.bytes };
 
+    #[tactic(auto, using(crate::proofs::InWords::length_part_bytes))]
     fn len(&self) -> usize {
         if self.bytes / WORD_BYTES < self.words.len() {
             self.bytes
@@ -43,6 +39,7 @@ impl<'a> ReadItems for PartBytes<'a> {
         }
     }
 
+    #[tactic(auto, using(crate::proofs::InWords::length_part_bytes, words::proofs::Got::got_outside))]
     fn item(&self, i: usize) -> Result<u8, Fault> {
         if i >= self.len() {
             return Err(Fault::Outside(i));

@@ -1,5 +1,6 @@
 -- What an append answers and leaves, case by case.
-use Rattle.std.proofs.Common.{◌≡◌, ℕ, ◌<◌, ◌≤◌, Bool, true, false, ltb, leb, List, ◌++◌, length, is_ok, Ok, Err, Result, sym, refl, ap, ◌∙◌, append-nil, le-ltb, lt-ltb, le-leb, leb-true}
+use Rattle.std.proofs.Common.{◌≡◌, ℕ, ◌<◌, ◌≤◌, Bool, true, false, ltb, leb, List, ◌++◌, length, is_ok, Ok, Err, Result, sym, refl, ap, ◌∙◌, subst, append-nil, le-ltb, lt-ltb, leb-true}
+use Rattle.std.specs.Result.{OnErr}
 use borrow.Author.Tests.{lt-leb}
 use Rattle.columns.specs.Plain.{grown, part, append_answer, append_list}
 use Rattle.columns.proofs.Lists.{part_none}
@@ -9,14 +10,14 @@ ok_answer (Ok u) e = refl
 ok_answer (Err f) e = let z : false ≡ true = e in cc
 
 -- what holds whichever way a call went holds where it was refused
-pub on_refusal : {T F P : Type 0} (r : Result T F) → P → elim r as (λ q. Type 0) [ Ok u ↦ Unit {0} | Err f ↦ P ]
+pub on_refusal : {T F P : Type 0} (r : Result T F) → P → OnErr r P
 on_refusal (Ok u) p = tt
 on_refusal (Err f) p = p
 
--- a refusal that leaves a part as it was leaves the whole as it was
-pub refused_inside : {T F A B : Type 0} (r : Result T F) (f : A → B) (a b : A) → elim r as (λ q. Type 0) [ Ok u ↦ Unit {0} | Err e ↦ a ≡ b ] → elim r as (λ q. Type 0) [ Ok u ↦ Unit {0} | Err e ↦ f a ≡ f b ]
-refused_inside (Ok u) f a b h = tt
-refused_inside (Err e) f a b h = ap f h
+-- a refusal that leaves a part as it was leaves the whole as it was, with what holds of the part
+pub refused_inside : {T F A B : Type 0} (P : A → Type 0) (make : (a : A) → P a → B) → ((a : A) → IsProp (P a)) → (r : Result T F) (a b : A) (p : P a) (q : P b) → OnErr r (a ≡ b) → OnErr r (make a p ≡ make b q)
+refused_inside P make alone (Ok u) a b p q h = tt
+refused_inside P make alone (Err e) a b p q h = subst (λ x. (q : P x) → make a p ≡ make x q) h (λ q. ap (make a) (alone a p q)) q
 
 -- the list after a call, by its answer
 pub grown_by : {A F : Type 0} (lim : List A → Bool) (ask : List A → List A → Result (Unit {0}) F) (xs ys : List A) (r : Result (Unit {0}) F) → is_ok (ask xs ys) ≡ lim ys → r ≡ ask xs ys → grown (is_ok r) xs ys ≡ grown (lim ys) xs ys
@@ -26,9 +27,6 @@ pub nothing_more : {A : Type 0} (xs src : List A) (s e : ℕ) → e ≤ s → xs
 nothing_more xs src s e h = ap (λ l. xs ++ l) (part_none src s e h) ∙ append-nil xs
 
 module _ {A F : Type 0} (past : ℕ → F) (ask : List A → List A → Result (Unit {0}) F) (lim : List A → Bool) (xs src : List A) (s e : ℕ) where
-  pub answer_none : e ≤ s → append_answer past ask xs src s e ≡ Ok tt
-  answer_none h = let q : leb e s ≡ true = le-leb _ _ h in rw q
-
   pub answer_past : s < e → length src < e → append_answer past ask xs src s e ≡ Err (past e)
   answer_past h k = let p : leb e s ≡ false = lt-leb _ _ h in let q : ltb (length src) e ≡ true = lt-ltb _ _ k in rw (p, q)
 

@@ -1,22 +1,30 @@
--- What a sound bit column says of its marks.
-use Rattle.std.proofs.Common.{◌≡◌, ℕ, ◌+◌, ◌-◌, ◌<◌, ◌≤◌, Bool, true, false, cond, ltb, leb, List, ◌++◌, length, get_or, take, drop, Ok, Err, sym, refl, ap, ◌∙◌, subst, arith, length-drop, length-take, ltb-false, ltb-true, leb-false, leb-true}
+-- What a bit column says of its marks.
+use Rattle.std.proofs.Common.{◌≡◌, ℕ, ◌+◌, ◌-◌, ◌<◌, ◌≤◌, Bool, true, false, cond, ltb, leb, List, [], ◌∷◌, ◌++◌, length, get_or, take, drop, Ok, sym, refl, ap, ◌∙◌, subst, arith, length-drop, length-take, ltb-true, leb-true}
 use Rattle.std.proofs.lemmas.List.{take-append-drop, take_all}
-use Rattle.refusals.specs.declared.fault.Fault.{Fault}
-use Rattle.refusals.specs.declared.fault.Fault.TheVariants.{Outside}
-use Rattle.words.specs.declared.reading.ReadWords.{Ghosts}
+use Rattle.words.specs.declared.reading.ReadStore.{Ghosts}
+use Rattle.words.specs.declared.reading.GrowStore.{Ghosts as Growing}
 use Rattle.bitlaws.specs.Bits.{most_bits, rank_of, ones_among}
 use Rattle.bitlaws.proofs.Words.{length_bits, ones_among_append, rank_le, rank_under}
 use Rattle.bitlaws.proofs.Ranks.{rank_step}
 use Rattle.columns.specs.Plain.{part}
 use Rattle.columns.proofs.Lists.{take_range}
 use Rattle.bits.specs.declared.rank_select.RankSelect.{RankSelect}
-use Rattle.bits.specs.Columns.{SoundIn, column_bits, get_answer, rank_answer}
+use Rattle.bits.specs.Columns.{column_bits, room_in, get_answer, rank_answer}
+use Rattle.bits.proofs.Growing.{fits_made}
 
 no_way : {A : Type 0} → ⊥ → A
 no_way z = elim z [ ]
 
-pub marks_few : {C V : Type 0} (c : Ghosts C) (v : Ghosts V) (r : RankSelect C V) → SoundIn c v r → length (column_bits v r) ≤ most_bits
-marks_few c v r h = omega (arith, length_bits (v.words r.values.values) r.values.word r.values.bits, h.held.small)
+module _ {C V : Type 0} {c : Ghosts C ℕ} {v : Ghosts V ℕ} (r : RankSelect C V c v) where
+  pub marks_few : length (column_bits v r) ≤ most_bits
+  marks_few = omega (arith, length_bits (v.list r.values.values) r.values.tail.word r.values.tail.bits, r.values.held.small)
+
+  -- marks are within their limit, where their stores are within theirs
+  pub marks_within : (counts : Growing C ℕ) (values : Growing V ℕ) → length (c.list r.counts) ≤ counts.room r.counts → length (v.list r.values.values) ≤ values.room r.values.values → room_in counts values r (length (column_bits v r)) ≡ true
+  marks_within counts values k h =
+      let n = length_bits (v.list r.values.values) r.values.tail.word r.values.tail.bits in
+      fits_made _ (values.room r.values.values) (counts.room r.counts)
+      (omega (arith, n, r.values.held.small)) (omega (arith, n, h, r.values.held.tailed.few)) (omega (arith, r.counted.many, k))
 
 module _ (bs : List Bool) (i : ℕ) where
   pub mark_found : (b : Bool) → Ok b ≡ get_answer bs i → (i < length bs) × (get_or bs i false ≡ b)
@@ -26,13 +34,6 @@ module _ (bs : List Bool) (i : ℕ) where
       go true e q = let p = rw e at q in let w : get_or bs i false ≡ b = cc in (ltb-true _ _ e, w)
       go false e q = let p = rw e at q in let z : ◌≡◌ {A = ℕ} 0 1 = cc in no_way (omega arith)
 
-  pub mark_refused : (f : Fault) → Err f ≡ get_answer bs i → (length bs ≤ i) × (f ≡ Outside i)
-  mark_refused f = go (ltb i (length bs)) refl
-    where
-      go : (t : Bool) → ltb i (length bs) ≡ t → Err f ≡ get_answer bs i → (length bs ≤ i) × (f ≡ Outside i)
-      go true e q = let p = rw e at q in let z : ◌≡◌ {A = ℕ} 0 1 = cc in no_way (omega arith)
-      go false e q = let p = rw e at q in let w : f ≡ Outside i = cc in (ltb-false _ _ e, w)
-
   pub rank_found : (n : ℕ) → Ok n ≡ rank_answer bs i → (i ≤ length bs) × (rank_of bs i ≡ n)
   rank_found n = go (leb i (length bs)) refl
     where
@@ -40,12 +41,10 @@ module _ (bs : List Bool) (i : ℕ) where
       go true e q = let p = rw e at q in let w : rank_of bs i ≡ n = cc in (leb-true _ _ e, w)
       go false e q = let p = rw e at q in let z : ◌≡◌ {A = ℕ} 0 1 = cc in no_way (omega arith)
 
-  pub rank_refused : (f : Fault) → Err f ≡ rank_answer bs i → (length bs < i) × (f ≡ Outside i)
-  rank_refused f = go (leb i (length bs)) refl
-    where
-      go : (t : Bool) → leb i (length bs) ≡ t → Err f ≡ rank_answer bs i → (length bs < i) × (f ≡ Outside i)
-      go true e q = let p = rw e at q in let z : ◌≡◌ {A = ℕ} 0 1 = cc in no_way (omega arith)
-      go false e q = let p = rw e at q in let w : f ≡ Outside i = cc in (leb-false _ _ e, w)
+pub ones_none : (bs : List Bool) → bs ≡ [] → ones_among bs ≡ 0
+unfolding ones_among
+ones_none [] e = refl
+ones_none (b ∷ bs) e = let z : ◌≡◌ {A = ℕ} 0 1 = cc in no_way (omega arith)
 
 -- a mark among others: the ones before it are fewer than all, and so are the zeros
 pub rank_all : (bs : List Bool) (i : ℕ) → rank_of bs i + ones_among (drop i bs) ≡ ones_among bs

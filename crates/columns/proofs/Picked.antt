@@ -3,7 +3,8 @@ use Rattle.std.proofs.Common.{◌≡◌, ℕ, zero, suc, ◌+◌, ◌-◌, ◌�
 use Rattle.std.proofs.lemmas.List.{take-map, drop-map, length-map, length-take-le}
 use Rattle.bitlaws.specs.Bits.{rank_of, ones_among}
 use Rattle.bitlaws.proofs.Words.{ones_among_append}
-use Rattle.columns.specs.Plain.{got, part, marks}
+use Rattle.words.specs.Words.{got}
+use Rattle.columns.specs.Plain.{part, marks}
 use Rattle.columns.specs.Variants.{also, picked}
 use Rattle.columns.proofs.Lists.{take_range}
 

@@ -1,5 +1,5 @@
 -- How lists of items are stored: as slices of bytes, worked out from the list alone.
-use Rattle.std.specs.Prelude.{◌≡◌, ℕ, ◌*◌, ◌%◌, ◌<◌, ◌≤◌, min, cond, List, [], ◌∷◌, length, nat_lt, slice_index}
+use Rattle.std.specs.Prelude.{◌≡◌, ℕ, ◌*◌, ◌%◌, ◌<◌, ◌≤◌, min, if◌then◌else◌, List, [], ◌∷◌, length, nat_lt, slice_index}
 use Rattle.store.specs.Layout.{Slice}
 
 -- the most items of a list that is stored
@@ -33,7 +33,7 @@ count_of sizes = min (length sizes) cut
 
 -- the size of an element of slice k; 0 past the last, and from the cut on
 abbrev pub size_of : List ℕ → ℕ → ℕ
-size_of sizes k = cond (nat_lt k cut) (slice_index sizes k) 0
+size_of sizes k = if nat_lt k cut then slice_index sizes k else 0
 
 -- words as one slice, 8 bytes a word
 abbrev pub words_slice : List ℕ → Slice

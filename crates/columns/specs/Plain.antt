@@ -1,14 +1,8 @@
 -- What the calls of a column answer, over the plain list of items that the column means.
-use Rattle.std.specs.Prelude.{ℕ, zero, suc, ◌-◌, Bool, true, false, cond, List, [], ◌∷◌, ◌++◌, map, length, take, drop, Ok, Err, Option, Result, nat_le, nat_lt}
+use Rattle.std.specs.Prelude.{ℕ, ◌-◌, Bool, true, false, if◌then◌else◌, List, ◌++◌, map, length, take, drop, Ok, Err, Option, Result, nat_le, nat_lt}
 use Rattle.refusals.specs.declared.fault.Fault.{Fault}
 use Rattle.refusals.specs.declared.fault.Fault.TheVariants.{Full}
 use Rattle.bitlaws.specs.Bits.{rank_of, select_of}
-
--- item i, or the fault f where i lies outside
-abbrev pub got : {A F : Type 0} → F → List A → ℕ → Result A F
-got f [] i = Err f
-got f (x ∷ xs) zero = Ok x
-got f (x ∷ xs) (suc i) = got f xs i
 
 -- the list after a call that would make `new` of `old`: `new` where the limit allows it
 abbrev pub grown : {A : Type 0} → Bool → List A → List A → List A
@@ -23,12 +17,12 @@ part xs start end = take (end - start) (drop start xs)
 -- the end lies past the source, and then what `ask` says of the longer list
 abbrev pub append_answer : {A F : Type 0} → (ℕ → F) → (List A → List A → Result (Unit {0}) F) → List A → List A → ℕ → ℕ → Result (Unit {0}) F
 append_answer past ask xs src start end =
-    cond (nat_le end start) (Ok tt) (cond (nat_lt (length src) end) (Err (past end)) (ask xs (xs ++ part src start end)))
+    if nat_le end start then Ok tt else if nat_lt (length src) end then Err (past end) else ask xs (xs ++ part src start end)
 
 -- the list after it
 abbrev pub append_list : {A : Type 0} → (List A → Bool) → List A → List A → ℕ → ℕ → List A
 append_list limit xs src start end =
-    cond (nat_le end start) xs (cond (nat_lt (length src) end) xs (grown (limit (xs ++ part src start end)) xs (xs ++ part src start end)))
+    if nat_le end start then xs else if nat_lt (length src) end then xs else grown (limit (xs ++ part src start end)) xs (xs ++ part src start end)
 
 -- the lists within a capacity
 abbrev pub within : {A : Type 0} → ℕ → List A → Bool
@@ -36,7 +30,7 @@ within cap xs = nat_le (length xs) cap
 
 -- making `new` of `old` under it: refusal 3 with the length before
 abbrev pub within_answer : {A : Type 0} → ℕ → List A → List A → Result (Unit {0}) Fault
-within_answer cap old new = cond (within cap new) (Ok tt) (Err (Full (length old)))
+within_answer cap old new = if within cap new then Ok tt else Err (Full (length old))
 
 -- the items that `one` holds of, marked by a one in a list of bits
 abbrev pub marks : {A : Type 0} → (A → Bool) → List A → List Bool
@@ -44,7 +38,7 @@ marks one xs = map one xs
 
 -- how many marked items stand below i, or refusal 1
 abbrev pub rank_answer : {A F : Type 0} → (ℕ → F) → (A → Bool) → List A → ℕ → Result ℕ F
-rank_answer outside one xs i = cond (nat_le i (length xs)) (Ok (rank_of (marks one xs) i)) (Err (outside i))
+rank_answer outside one xs i = if nat_le i (length xs) then Ok (rank_of (marks one xs) i) else Err (outside i)
 
 -- the place of the marked item that r marked ones stand before, or none
 abbrev pub select_answer : {A : Type 0} → (A → Bool) → List A → ℕ → Option ℕ

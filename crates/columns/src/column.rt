@@ -1,6 +1,7 @@
-ghost use Rattle.std.specs.Prelude.{◌≡◌, ℕ, Bool, true, List, [], ◌∷◌, ◌++◌, length, is_ok, Ok, Err, Result};
+ghost use Rattle.std.specs.Prelude.{◌≡◌, ℕ, Bool, true, List, [], ◌∷◌, ◌++◌, length, is_ok, Ok, Err, Result, OnErr};
+ghost use Rattle.words.specs.Words.{got};
 ghost use Rattle.columns.specs.Kinds.{Lawful};
-ghost use Rattle.columns.specs.Plain.{got, grown, append_answer, append_list, rank_answer, select_answer};
+ghost use Rattle.columns.specs.Plain.{grown, append_answer, append_list, rank_answer, select_answer};
 
 use crate::kind::Kind;
 use refusals::refusal::Refusal;
@@ -16,19 +17,14 @@ pub trait Column {
 
     ghost items: { Self → List Self.Item };
 
-    // What making and opening establish, and every call keeps.
-    ghost sound: { Self → Type 0 };
-
     fn len(&self) -> usize
-        requires { sound self.now }
         ensures { result ≡ length (items self.now) };
 
     // Item `i`, refused with 1 outside.
     fn get(&self, i: usize) -> Result<Self::Item, Self::Fault>
-        requires { sound self.now }
         ensures { result ≡ got (Self.Fault.Refusal.outside i) (items self.now) i };
 
-    ghost lawful: { (s : Self) → sound s → Lawful Self.Kind.Kind.fit (items s) };
+    ghost lawful: { (s : Self) → Lawful Self.Kind.Kind.fit (items s) };
 }
 
 // A payload column: items are added at the end, within a limit that no call alters.
@@ -39,49 +35,38 @@ pub trait Payload: Column {
     // What a call answers that would make the second list of the first: Ok, or refusal 3.
     ghost ask: { Self → List Self.Item → List Self.Item → Result Unit Self.Fault };
 
-    // The list is within the limit: a fact for proofs, at no cost when it runs.
-    fn held(&self)
-        requires { Self.sound self.now }
-        ensures { limit self.now (Self.items self.now) ≡ true };
-
     // Whether one more item keeps the limit: what `push` would answer.
     fn fits(&self, x: Self::Item) -> Result<(), Self::Fault>
-        requires { Self.sound self.now }
         ensures { result ≡ ask self.now (Self.items self.now) (Self.items self.now ++ (x ∷ [])) };
 
     // Whether a range of a source does: what `append` would answer.
     fn fits_range(&self, source: &Self, start: usize, end: usize) -> Result<(), Self::Fault>
-        requires { (Self.sound self.now) × (Self.sound source.now) }
         ensures { result ≡ append_answer Self.Fault.Refusal.past (ask self.now) (Self.items self.now) (Self.items source.now) start end };
 
     // Adds an item, refused with 3 where the limit would be passed.
     fn push(&mut self, x: Self::Item) -> Result<(), Self::Fault>
-        requires { Self.sound self.old }
-        ensures sound { Self.sound self.new }
         ensures answer { result ≡ ask self.old (Self.items self.old) (Self.items self.old ++ (x ∷ [])) }
         ensures list { Self.items self.new ≡ grown (limit self.old (Self.items self.old ++ (x ∷ []))) (Self.items self.old) (Self.items self.old ++ (x ∷ [])) }
         ensures limit { limit self.new ≡ limit self.old }
         ensures ask { ask self.new ≡ ask self.old }
-        ensures same { elim result [ Ok _ ↦ Unit {0} | Err _ ↦ self.new ≡ self.old ] };
+        ensures same { OnErr result (self.new ≡ self.old) };
 
     // Adds items `start` to `end - 1` of a source, nothing where start is at or above end: refused with 2
     // where the end lies past the source, then with 3.
     fn append(&mut self, source: &Self, start: usize, end: usize) -> Result<(), Self::Fault>
-        requires { (Self.sound self.old) × (Self.sound source.now) }
-        ensures sound { Self.sound self.new }
         ensures answer { result ≡ append_answer Self.Fault.Refusal.past (ask self.old) (Self.items self.old) (Self.items source.now) start end }
         ensures list { Self.items self.new ≡ append_list (limit self.old) (Self.items self.old) (Self.items source.now) start end }
         ensures limit { limit self.new ≡ limit self.old }
         ensures ask { ask self.new ≡ ask self.old }
-        ensures same { elim result [ Ok _ ↦ Unit {0} | Err _ ↦ self.new ≡ self.old ] };
+        ensures same { OnErr result (self.new ≡ self.old) };
 
     // Leaves no items.
     fn clear(&mut self)
-        requires { Self.sound self.old }
-        ensures sound { Self.sound self.new }
         ensures list { Self.items self.new ≡ [] }
         ensures limit { limit self.new ≡ limit self.old }
         ensures ask { ask self.new ≡ ask self.old };
+
+    ghost holds: { (s : Self) → limit s (Self.items s) ≡ true };
 
     ghost empty: { (s : Self) → limit s [] ≡ true };
 
@@ -96,11 +81,9 @@ pub trait Payload: Column {
 pub trait Variant: Column {
     // The number of marked entries below `i`, refused with 1 above the length.
     fn rank(&self, i: usize) -> Result<usize, Self::Fault>
-        requires { Self.sound self.now }
         ensures { result ≡ rank_answer Self.Fault.Refusal.outside Self.Kind.Kind.one (Self.items self.now) i };
 
     // The place of the marked entry that `r` marked ones stand before, or none.
     fn select(&self, r: u64) -> Option<usize>
-        requires { Self.sound self.now }
         ensures { result ≡ select_answer Self.Kind.Kind.one (Self.items self.now) r };
 }

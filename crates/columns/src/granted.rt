@@ -1,20 +1,23 @@
 ghost use Rattle.std.specs.Prelude.{◌≡◌, ℕ, ◌+◌, ◌-◌, ◌≤◌, true, List, [], ◌∷◌, ◌++◌, length, Ok, Err};
 ghost use Rattle.bitlaws.specs.Bits.{rank_of};
-ghost use Rattle.bits.specs.Columns.{SoundIn, column_bits, room_in};
+ghost use Rattle.bits.specs.Columns.{column_bits, room_in};
 ghost use Rattle.columns.specs.Plain.{part, append_answer};
 
 use crate::column::{Column, Payload};
 use bits::rank_select::RankSelect;
 use refusals::refusal::Refusal;
-use words::reading::{GrowWords, ReadWords};
+use words::reading::{GrowStore, ReadStore};
 
 // Calls whose refusal is ruled out by what was asked before: they keep it out of the columns above.
 
 // The ones of a bit column below `i`, which is not above its length.
-pub fn rank_in<C: ReadWords, V: ReadWords>(bits: &RankSelect<C, V>, i: usize) -> usize
-    requires sound { SoundIn C.ReadWords V.ReadWords bits.now }
-    requires within { i ≤ length (column_bits V.ReadWords bits.now) }
-    ensures value { result ≡ rank_of (column_bits V.ReadWords bits.now) i }
+#[tactic(auto, using(crate::proofs::Marked::rank_found, bitlaws::proofs::Words::rank_under))]
+pub fn rank_in<C: ReadStore<Item = u64>, V: ReadStore<Item = u64>>(
+    bits: &RankSelect<C, V>,
+    i: usize,
+) -> usize
+    requires { i ≤ length (column_bits V.ReadStore bits.now) }
+    ensures value { result ≡ rank_of (column_bits V.ReadStore bits.now) i }
     ensures below { result ≤ i }
 {
     match bits.rank(i) {
@@ -23,23 +26,14 @@ pub fn rank_in<C: ReadWords, V: ReadWords>(bits: &RankSelect<C, V>, i: usize) ->
     }
 }
 
-// The marks are within their limit: a fact for proofs, at no cost when it runs. The capacities are asked
-// for nothing but their promise that the stores are within them.
-pub fn bits_held<C: GrowWords, V: GrowWords>(bits: &RankSelect<C, V>)
-    requires { SoundIn C.ReadWords V.ReadWords bits.now }
-    ensures { room_in C.GrowWords.own V.GrowWords.own bits.now (length (column_bits V.ReadWords bits.now)) ≡ true }
-{
-    let _ = bits.counts().capacity();
-    let _ = bits.values().words().capacity();
-}
-
 // Adds a bit for which there is room.
-pub fn push_bit<C: GrowWords, V: GrowWords>(bits: &mut RankSelect<C, V>, bit: bool)
-    requires sound { SoundIn C.ReadWords V.ReadWords bits.old }
-    requires room { room_in C.GrowWords.own V.GrowWords.own bits.old (length (column_bits V.ReadWords bits.old) + 1) ≡ true }
-    ensures list { column_bits V.ReadWords bits.new ≡ column_bits V.ReadWords bits.old ++ (bit ∷ []) }
-    ensures sound { SoundIn C.ReadWords V.ReadWords bits.new }
-    ensures room { room_in C.GrowWords.own V.GrowWords.own bits.new ≡ room_in C.GrowWords.own V.GrowWords.own bits.old }
+pub fn push_bit<C: GrowStore<Item = u64>, V: GrowStore<Item = u64>>(
+    bits: &mut RankSelect<C, V>,
+    bit: bool,
+)
+    requires { room_in C.GrowStore.own V.GrowStore.own bits.old (length (column_bits V.ReadStore bits.old) + 1) ≡ true }
+    ensures list { column_bits V.ReadStore bits.new ≡ column_bits V.ReadStore bits.old ++ (bit ∷ []) }
+    ensures room { room_in C.GrowStore.own V.GrowStore.own bits.new ≡ room_in C.GrowStore.own V.GrowStore.own bits.old }
 {
     match bits.push(bit) {
         Ok(()) => {}
@@ -48,19 +42,16 @@ pub fn push_bit<C: GrowWords, V: GrowWords>(bits: &mut RankSelect<C, V>, bit: bo
 }
 
 // Adds bits `start` to `end - 1` of a source, for which there is room.
-pub fn append_bits<C: GrowWords, V: GrowWords>(
+pub fn append_bits<C: GrowStore<Item = u64>, V: GrowStore<Item = u64>>(
     bits: &mut RankSelect<C, V>,
     source: &RankSelect<C, V>,
     start: usize,
     end: usize,
 )
-    requires sound { SoundIn C.ReadWords V.ReadWords bits.old }
-    requires source { SoundIn C.ReadWords V.ReadWords source.now }
-    requires within { end ≤ length (column_bits V.ReadWords source.now) }
-    requires room { room_in C.GrowWords.own V.GrowWords.own bits.old (length (column_bits V.ReadWords bits.old) + (end - start)) ≡ true }
-    ensures list { column_bits V.ReadWords bits.new ≡ column_bits V.ReadWords bits.old ++ part (column_bits V.ReadWords source.now) start end }
-    ensures sound { SoundIn C.ReadWords V.ReadWords bits.new }
-    ensures room { room_in C.GrowWords.own V.GrowWords.own bits.new ≡ room_in C.GrowWords.own V.GrowWords.own bits.old }
+    requires within { end ≤ length (column_bits V.ReadStore source.now) }
+    requires room { room_in C.GrowStore.own V.GrowStore.own bits.old (length (column_bits V.ReadStore bits.old) + (end - start)) ≡ true }
+    ensures list { column_bits V.ReadStore bits.new ≡ column_bits V.ReadStore bits.old ++ part (column_bits V.ReadStore source.now) start end }
+    ensures room { room_in C.GrowStore.own V.GrowStore.own bits.new ≡ room_in C.GrowStore.own V.GrowStore.own bits.old }
 {
     match bits.append(source, start, end) {
         Ok(()) => {}
@@ -70,9 +61,7 @@ pub fn append_bits<C: GrowWords, V: GrowWords>(
 
 // Adds a range that `fits_range` has granted.
 pub fn append_items<T: Payload>(column: &mut T, source: &T, start: usize, end: usize)
-    requires sound { (T.Column.sound column.old) × (T.Column.sound source.now) }
-    requires granted { append_answer T.Fault.Refusal.past (T.Payload.ask column.old) (T.Column.items column.old) (T.Column.items source.now) start end ≡ Ok tt }
-    ensures sound { T.Column.sound column.new }
+    requires { append_answer T.Fault.Refusal.past (T.Payload.ask column.old) (T.Column.items column.old) (T.Column.items source.now) start end ≡ Ok tt }
     ensures list { T.Column.items column.new ≡ T.Column.items column.old ++ part (T.Column.items source.now) start end }
     ensures limit { T.Payload.limit column.new ≡ T.Payload.limit column.old }
     ensures ask { T.Payload.ask column.new ≡ T.Payload.ask column.old }

@@ -1,4 +1,4 @@
-ghost use Rattle.std.specs.Prelude.{◌≡◌, ℕ, Bool, List, length};
+ghost use Rattle.std.specs.Prelude.{◌≡◌, ℕ, Bool, List, [], ◌∷◌, length};
 ghost use Rattle.store.specs.Layout.{Slice, AllFormed};
 ghost use Rattle.columns.specs.Kinds.{Lawful, Whole, count_of, size_of};
 
@@ -17,6 +17,9 @@ pub trait Kind<I> {
 
     // The item fits its type.
     ghost fit: { I → Type 0 };
+
+    // It fits in one way only, so that a struct may keep the fact.
+    ghost alone: { (x : I) → IsProp (fit x) };
 
     // The stored form of a list.
     ghost form: { List I → List Slice };
@@ -39,4 +42,17 @@ pub trait Kind<I> {
     ghost whole: { (xs : List I) → Lawful fit xs → Whole sizes (form xs) };
 
     ghost single: { (xs ys : List I) → Lawful fit xs → Lawful fit ys → form xs ≡ form ys → xs ≡ ys };
+}
+
+// A kind of items whose type alone says that they fit, as a word is below 2 ^ 64.
+pub trait Plain<I>: Kind<I> {
+    fn fits(x: I)
+        ensures { Self.Kind.fit x };
+}
+
+// The size of an element of slice `k`, where there is one slice, of elements of `size`.
+pub fn sole_size(k: usize, size: usize) -> usize
+    ensures { result ≡ size_of (size ∷ []) k }
+{
+    if k == 0 { size } else { 0 }
 }

@@ -2,8 +2,8 @@
 use Rattle.std.proofs.Common.{◌≡◌, ℕ, ◌<◌, ◌≤◌, Bool, true, false, cond, leb, List, length, Some, Ok, Err, Option, sym, ◌∙◌, ⊎_elim, arith}
 use Rattle.refusals.specs.declared.fault.Fault.{Fault}
 use Rattle.refusals.specs.declared.fault.Fault.TheVariants.{Outside}
-use Rattle.bitlaws.specs.Bits.{rank_of, select_of, first_from}
-use Rattle.bitlaws.proofs.Words.{rank_under}
+use Rattle.bitlaws.specs.Bits.{most_bits, bits_of, rank_of, select_of, first_from, Held}
+use Rattle.bitlaws.proofs.Words.{rank_under, length_bits}
 use Rattle.bitlaws.proofs.Selects.{select_place}
 use Rattle.bitlaws.proofs.Firsts.{first_finds_lem}
 use Rattle.std.proofs.lemmas.Bool.{le-leb, cases_lt}
@@ -35,3 +35,7 @@ refused_past bs i f e = ⊎_elim
   where
     never : (o : Option ℕ) → Err f ≡ Ok o → ◌≡◌ {A = ℕ} 0 1
     never o e = cc
+
+-- a column is far from the end of its numbers
+pub column_small : (ws : List ℕ) (t k : ℕ) → Held ws t k → length (bits_of ws t k) ≤ most_bits
+column_small ws t k h = omega (arith, length_bits ws t k, h.small)

@@ -1,5 +1,5 @@
 -- The moves of a cursor, over the list of bits: each gives an answer, and the place and count after it.
-use Rattle.std.specs.Prelude.{ℕ, ◌+◌, ◌*◌, ◌/◌, max, Bool, true, false, cond, List, length, Some, None, Ok, Err, Option, Result, ◌==◌, nat_lt, slice_index_or}
+use Rattle.std.specs.Prelude.{ℕ, ◌+◌, ◌*◌, ◌/◌, max, Bool, true, false, if◌then◌else◌, List, length, Some, None, Ok, Err, Option, Result, ◌==◌, nat_lt, slice_index_or}
 use Rattle.refusals.specs.declared.fault.Fault.{Fault}
 use Rattle.refusals.specs.declared.fault.Fault.TheVariants.{Length, Behind}
 use Rattle.bitlaws.specs.Bits.{rank_of, select_of, first_from}
@@ -26,11 +26,11 @@ next_one bs s = (first_from bs s.0, after_one bs s (first_from bs s.0))
 
 -- step: past one bit, which is counted
 abbrev pub step : List Bool → Spot → Option Bool × Spot
-step bs s = cond (nat_lt s.0 (length bs)) (Some (slice_index_or bs s.0 false), (s.0 + 1, s.1 + cond (slice_index_or bs s.0 false) 1 0)) (None, s)
+step bs s = if nat_lt s.0 (length bs) then (Some (slice_index_or bs s.0 false), (s.0 + 1, s.1 + (if slice_index_or bs s.0 false then 1 else 0))) else (None, s)
 
 -- seek_to_pos: to the place t, or to the end
 abbrev pub to_pos : List Bool → ℕ → Spot → Bool × Spot
-to_pos bs t s = cond (nat_lt t (length bs)) (true, (t, rank_of bs t)) (false, (length bs, s.1))
+to_pos bs t s = if nat_lt t (length bs) then (true, (t, rank_of bs t)) else (false, (length bs, s.1))
 
 -- seek_to_rank: to the place behind the one that t ones stand before, or to the end
 abbrev pub behind_one : List Bool → ℕ → Option ℕ → Spot
@@ -42,11 +42,11 @@ to_rank bs t s = (select_of bs t, behind_one bs t (select_of bs t))
 
 -- a move is over a column of the cursor's length n: refusal 5 with the column's
 abbrev pub meets : List Bool → ℕ → Result (Unit {0}) Fault
-meets bs n = cond (length bs == n) (Ok tt) (Err (Length (length bs)))
+meets bs n = if length bs == n then Ok tt else Err (Length (length bs))
 
 -- and a seek goes to no target t below `from`: then refusal 6 with t
 abbrev pub ahead : List Bool → ℕ → ℕ → ℕ → Result (Unit {0}) Fault
-ahead bs n t from = cond (length bs == n) (cond (nat_lt t from) (Err (Behind t)) (Ok tt)) (Err (Length (length bs)))
+ahead bs n t from = if length bs == n then (if nat_lt t from then Err (Behind t) else Ok tt) else Err (Length (length bs))
 
 -- what a call answers and where it leaves the cursor, where the move would give a and lead to b
 abbrev pub told : {A : Type 0} → Result (Unit {0}) Fault → A → Result A Fault

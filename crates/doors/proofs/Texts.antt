@@ -1,7 +1,8 @@
 -- The doors of a text, byte by byte.
-use Rattle.std.proofs.Common.{◌≡◌, ℕ, ◌+◌, ◌<◌, Bool, List, [], ◌∷◌, ◌++◌, length, get_or, take, sym, refl, ap, ◌∙◌}
+use Rattle.std.proofs.Common.{◌≡◌, ℕ, ◌+◌, ◌<◌, Bool, List, [], ◌∷◌, ◌++◌, length, get_or, take, Result, sym, refl, ap, ◌∙◌}
 use Rattle.std.proofs.lemmas.List.{append-nil, append_assoc, take_more}
 use Rattle.doors.specs.declared.plan.Mark.{Mark}
+use Rattle.doors.specs.declared.plan.Strange.{Strange}
 use Rattle.doors.specs.Plan.{mark_of, doors_of, doors_in}
 
 doors_append : (xs ys : List ℕ) → doors_in (xs ++ ys) ≡ doors_in xs ++ doors_in ys
@@ -14,7 +15,7 @@ unfolding doors_in
 doors_one b = append-nil (doors_of (mark_of b))
 
 -- one byte further
-pub doors_more : (text : List ℕ) (at : ℕ) (m : Mark) → at < length text → m ≡ mark_of (get_or text at 0) → (old : List Bool) → (old ++ doors_in (take at text)) ++ doors_of m ≡ old ++ doors_in (take (at + 1) text)
+pub doors_more : (text : List ℕ) (at : ℕ) (m : Result Mark Strange) → at < length text → m ≡ mark_of (get_or text at 0) → (old : List Bool) → (old ++ doors_in (take at text)) ++ doors_of m ≡ old ++ doors_in (take (at + 1) text)
 doors_more text at m h e old =
     append_assoc old (doors_in (take at text)) (doors_of m)
     ∙ ap (λ (x : List Bool). old ++ x)

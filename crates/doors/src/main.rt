@@ -5,19 +5,19 @@ mod plan;
 mod report;
 
 use bits::rank_select::RankSelect;
-use plan::{Trouble, note_doors};
+use plan::note_doors;
 use report::print_report;
 use std::io;
 use std::io::Read;
 use words::heap::HeapWords;
-use words::reading::ReadWords;
+use words::reading::ReadStore;
 
 // The most bytes that a plan may have.
 const LONGEST: usize = 16_384;
 
 fn main(rt: HostRuntime) -> io::Result<()> {
     let mut text = Vec::with_capacity(rt.alloc(), LONGEST + 1)?;
-    rt.stdin().take(16_385).read_to_end(&mut text)?;
+    rt.stdin().take(LONGEST as u64 + 1).read_to_end(&mut text)?;
     if text.len() > LONGEST {
         return println!(rt; "the plan is too long: byte {LONGEST} is one too many");
     }
@@ -26,7 +26,6 @@ fn main(rt: HostRuntime) -> io::Result<()> {
     let mut doors = RankSelect::new(counts, values);
     match note_doors(text.as_slice(), &mut doors) {
         Ok(()) => print_report(&rt, &doors),
-        Err(Trouble::Strange(at)) => println!(rt; "byte {at} is neither x nor -"),
-        Err(Trouble::Refused(at, fault)) => println!(rt; "byte {at}: {fault}"),
+        Err(trouble) => println!(rt; "{trouble}"),
     }
 }

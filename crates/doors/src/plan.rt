@@ -1,55 +1,71 @@
 ghost use Rattle.std.specs.Prelude.{◌≡◌, ℕ, ◌+◌, List, [], ◌∷◌, ◌++◌, Ok, Err};
-ghost use Rattle.bits.specs.Columns.{SoundIn, column_bits};
+ghost use Rattle.bits.specs.Columns.{column_bits};
 ghost use Rattle.doors.specs.Plan.{mark_of, Noted};
 
 use bits::rank_select::RankSelect;
 use refusals::fault::Fault;
-use words::reading::GrowWords;
+use std::fmt;
+use words::reading::{GrowStore, ReadStore};
 
 // What a character of a plan says.
-#[derive(Clone, Copy)]
+#[derive(Clone, Copy, PartialEq, Eq, Debug)]
 pub enum Mark {
     Door(bool),
     Break,
-    Strange,
 }
 
+// A character that is no mark.
+#[derive(Clone, Copy, PartialEq, Eq, Debug)]
+pub struct Strange;
+
 // Why a plan was not taken in, and at which byte.
-#[derive(Clone, Copy)]
+#[derive(Clone, Copy, PartialEq, Eq, Debug)]
 pub enum Trouble {
     Strange(usize),
     Refused(usize, Fault),
 }
 
 // `x` is a door reached, `-` a door missed, and a line break is no door.
-fn read_mark(byte: u8) -> Mark
-    ensures { result ≡ mark_of byte }
-{
-    match byte {
-        b'x' => Mark::Door(true),
-        b'-' => Mark::Door(false),
-        b'\n' | b'\r' => Mark::Break,
-        _ => Mark::Strange,
+impl TryFrom<u8> for Mark {
+    type Error = Strange;
+
+    ghost try_from_gives = { λ b r. r ≡ mark_of b };
+
+    fn try_from(byte: u8) -> Result<Mark, Strange> {
+        match byte {
+            b'x' => Ok(Mark::Door(true)),
+            b'-' => Ok(Mark::Door(false)),
+            b'\n' | b'\r' => Ok(Mark::Break),
+            _ => Err(Strange),
+        }
+    }
+}
+
+impl fmt::Display for Trouble {
+    fn fmt<W: fmt::Write>(&self, f: &mut fmt::Formatter<W>) -> fmt::Result {
+        match self {
+            Trouble::Strange(at) => write!(f, "byte {at} is neither x nor -"),
+            Trouble::Refused(at, fault) => write!(f, "byte {at}: {fault}"),
+        }
     }
 }
 
 // Adds the doors of a plan to a column.
-pub fn note_doors<C: GrowWords, V: GrowWords>(
+pub fn note_doors<C: GrowStore<Item = u64>, V: GrowStore<Item = u64>>(
     text: &[u8],
     doors: &mut RankSelect<C, V>,
 ) -> Result<(), Trouble>
-    requires { SoundIn C.ReadWords V.ReadWords doors.old }
-    ensures noted { Noted text.now (column_bits V.ReadWords doors.old) result (column_bits V.ReadWords doors.new) }
-    ensures sound { SoundIn C.ReadWords V.ReadWords doors.new }
+    ensures { Noted text.now (column_bits V.ReadStore doors.old) result (column_bits V.ReadStore doors.new) }
 {
     for (at, byte) in text.iter().enumerate() {
-        match read_mark(*byte) {
-            Mark::Door(bit) => match doors.push(bit) {
-                Ok(()) => {}
-                Err(fault) => return Err(Trouble::Refused(at, fault)),
-            },
+        let Ok(mark) = Mark::try_from(*byte) else {
+            return Err(Trouble::Strange(at));
+        };
+        match mark {
+            Mark::Door(bit) => doors
+                .push(bit)
+                .map_err(|fault| Trouble::Refused(at, fault))?,
             Mark::Break => {}
-            Mark::Strange => return Err(Trouble::Strange(at)),
         }
     }
     Ok(())

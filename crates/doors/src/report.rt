@@ -1,25 +1,21 @@
-ghost use Rattle.bits.specs.Columns.{SoundIn};
-
 use bits::rank_select::RankSelect;
 use std::io;
-use words::reading::ReadWords;
+use words::reading::ReadStore;
 
 // How far apart the places are that the report counts up to.
 const STRIDE: usize = 64;
 
 // Prints how many doors there are and were reached, the number reached before every 64th place, and
 // the places of the missed ones.
-pub fn print_report<C: ReadWords, V: ReadWords>(
+pub fn print_report<C: ReadStore<Item = u64>, V: ReadStore<Item = u64>>(
     rt: &impl Print,
     doors: &RankSelect<C, V>,
-) -> io::Result<()>
-    requires { SoundIn C.ReadWords V.ReadWords doors.now }
-{
+) -> io::Result<()> {
     let n = doors.len();
     println!(rt; "{n} doors")?;
     print_rank(rt, doors, n)?;
-    for i in 0..n / STRIDE {
-        print_rank(rt, doors, STRIDE * (i + 1))?;
+    for i in 1..=n / STRIDE {
+        print_rank(rt, doors, STRIDE * i)?;
     }
     for i in 0..n {
         if let Ok(false) = doors.get(i) {
@@ -30,13 +26,11 @@ pub fn print_report<C: ReadWords, V: ReadWords>(
 }
 
 // Prints how many doors before a place were reached.
-fn print_rank<C: ReadWords, V: ReadWords>(
+fn print_rank<C: ReadStore<Item = u64>, V: ReadStore<Item = u64>>(
     rt: &impl Print,
     doors: &RankSelect<C, V>,
     place: usize,
-) -> io::Result<()>
-    requires { SoundIn C.ReadWords V.ReadWords doors.now }
-{
+) -> io::Result<()> {
     match doors.rank(place) {
         Ok(reached) => println!(rt; "before door {place}: {reached} reached"),
         Err(fault) => println!(rt; "{fault}"),

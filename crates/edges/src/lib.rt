@@ -1,23 +1,18 @@
 // Tests of the low crates at their edges; the functions here only fill and compare.
 #![tactic(auto)]
 
-ghost use Rattle.bits.specs.Columns.{SoundIn};
-
 use bits::rank_select::RankSelect;
 use cursor::cursor::Cursor;
 use refusals::fault::Fault;
 use refusals::refusal::Refusal;
-use store::store::RawStore;
-use words::reading::{GrowWords, ReadWords};
+use store::store::{CheckedStore, RawStore};
+use words::reading::{GrowStore, ReadStore};
 
 // Pushes `n` bits, of which every third is a one.
-pub fn fill<C: GrowWords, V: GrowWords>(
+pub fn fill<C: GrowStore<Item = u64>, V: GrowStore<Item = u64>>(
     column: &mut RankSelect<C, V>,
     n: usize,
-) -> Result<(), Fault>
-    requires { SoundIn C.ReadWords V.ReadWords column.old }
-    ensures { SoundIn C.ReadWords V.ReadWords column.new }
-{
+) -> Result<(), Fault> {
     for i in 0..n {
         column.push(i % 3 == 0)?;
     }
@@ -25,10 +20,9 @@ pub fn fill<C: GrowWords, V: GrowWords>(
 }
 
 // At how many places rank is another number than that of the ones which `get` shows below.
-pub fn astray<C: ReadWords, V: ReadWords>(column: &RankSelect<C, V>) -> Result<usize, Fault>
-    requires { SoundIn C.ReadWords V.ReadWords column.now }
-    ensures { SoundIn C.ReadWords V.ReadWords column.now }
-{
+pub fn astray<C: ReadStore<Item = u64>, V: ReadStore<Item = u64>>(
+    column: &RankSelect<C, V>,
+) -> Result<usize, Fault> {
     let mut wrong = 0usize;
     let mut ones = 0usize;
     for i in 0..column.len() {
@@ -46,10 +40,9 @@ pub fn astray<C: ReadWords, V: ReadWords>(column: &RankSelect<C, V>) -> Result<u
 }
 
 // At how many ranks select is another place than that of the ones in order.
-pub fn misplaced<C: ReadWords, V: ReadWords>(column: &RankSelect<C, V>) -> Result<usize, Fault>
-    requires { SoundIn C.ReadWords V.ReadWords column.now }
-    ensures { SoundIn C.ReadWords V.ReadWords column.now }
-{
+pub fn misplaced<C: ReadStore<Item = u64>, V: ReadStore<Item = u64>>(
+    column: &RankSelect<C, V>,
+) -> Result<usize, Fault> {
     let mut wrong = 0usize;
     let mut ones = 0u64;
     for i in 0..column.len() {
@@ -67,14 +60,10 @@ pub fn misplaced<C: ReadWords, V: ReadWords>(column: &RankSelect<C, V>) -> Resul
 }
 
 // At how many places two columns differ, and how much longer one is.
-pub fn unlike<C: ReadWords, V: ReadWords>(
+pub fn unlike<C: ReadStore<Item = u64>, V: ReadStore<Item = u64>>(
     a: &RankSelect<C, V>,
     b: &RankSelect<C, V>,
-) -> Result<usize, Fault>
-    requires a { SoundIn C.ReadWords V.ReadWords a.now }
-    requires b { SoundIn C.ReadWords V.ReadWords b.now }
-    ensures { SoundIn C.ReadWords V.ReadWords a.now }
-{
+) -> Result<usize, Fault> {
     let mut wrong = a.len().abs_diff(b.len());
     for i in 0..a.len().min(b.len()) {
         if a.get(i)? != b.get(i)? {
@@ -85,16 +74,12 @@ pub fn unlike<C: ReadWords, V: ReadWords>(
 }
 
 // Pushes bits `start` to `end - 1` of a source one by one.
-pub fn push_range<C: GrowWords, V: GrowWords>(
+pub fn push_range<C: GrowStore<Item = u64>, V: GrowStore<Item = u64>>(
     column: &mut RankSelect<C, V>,
     source: &RankSelect<C, V>,
     start: usize,
     end: usize,
-) -> Result<(), Fault>
-    requires column { SoundIn C.ReadWords V.ReadWords column.old }
-    requires source { SoundIn C.ReadWords V.ReadWords source.now }
-    ensures { SoundIn C.ReadWords V.ReadWords column.new }
-{
+) -> Result<(), Fault> {
     for i in start..end {
         column.push(source.get(i)?)?;
     }
@@ -102,13 +87,10 @@ pub fn push_range<C: GrowWords, V: GrowWords>(
 }
 
 // Pushes `n` words of ones.
-pub fn push_words<C: GrowWords, V: GrowWords>(
+pub fn push_words<C: GrowStore<Item = u64>, V: GrowStore<Item = u64>>(
     column: &mut RankSelect<C, V>,
     n: usize,
-) -> Result<(), Fault>
-    requires { SoundIn C.ReadWords V.ReadWords column.old }
-    ensures { SoundIn C.ReadWords V.ReadWords column.new }
-{
+) -> Result<(), Fault> {
     for _ in 0..n {
         column.push_bits(u64::MAX, 64)?;
     }
@@ -117,10 +99,9 @@ pub fn push_words<C: GrowWords, V: GrowWords>(
 
 // At how many calls a walk by next_one answers another place than select, and a walk by step another bit
 // than get.
-pub fn stray_walks<C: ReadWords, V: ReadWords>(column: &RankSelect<C, V>) -> Result<usize, Fault>
-    requires { SoundIn C.ReadWords V.ReadWords column.now }
-    ensures { SoundIn C.ReadWords V.ReadWords column.now }
-{
+pub fn stray_walks<C: ReadStore<Item = u64>, V: ReadStore<Item = u64>>(
+    column: &RankSelect<C, V>,
+) -> Result<usize, Fault> {
     let mut wrong = 0usize;
     let mut ones = Cursor::new(column);
     let mut bits = Cursor::new(column);
@@ -138,9 +119,9 @@ pub fn stray_walks<C: ReadWords, V: ReadWords>(column: &RankSelect<C, V>) -> Res
     Ok(wrong)
 }
 
-// The number of check's refusal, or 0.
-pub fn check_number(words: &[u64], expected: usize) -> u32 {
-    match RawStore::new(words).check(expected) {
+// The number of the refusal of a store, or 0: the tests tell refusals by number, as the rules do.
+pub fn number_of(answer: Result<CheckedStore<'_>, Fault>) -> u32 {
+    match answer {
         Ok(_) => 0,
         Err(fault) => fault.number(),
     }
@@ -151,24 +132,16 @@ pub fn changes_with(number: u32) -> usize {
     let good = [40, 40, 40, 56, 72, 5, 3, 7, 9];
     let values = [0, 8, 39, 41, 48, 56, 72, 73, u64::MAX];
     let mut found = 0usize;
-    for i in 0..9 {
+    for i in 0..good.len() {
         for v in values.iter() {
             let mut words = good;
             words[i] = *v;
-            if check_number(&words, 4) == number {
+            if number_of(RawStore::new(&words).check(4)) == number {
                 found = found.saturating_add(1);
             }
         }
     }
     found
-}
-
-// The number of validate's refusal, or 0.
-pub fn validate_number(words: &[u64], sizes: &[usize]) -> u32 {
-    match RawStore::new(words).validate(sizes) {
-        Ok(_) => 0,
-        Err(fault) => fault.number(),
-    }
 }
 
 // The number of words and of tail bytes of a slice.

@@ -1,16 +1,17 @@
 use crate::{
-    astray, changes_with, check_number, fill, misplaced, push_range, push_words, slice_shape,
-    stray_walks, unlike, validate_number,
+    astray, changes_with, fill, misplaced, number_of, push_range, push_words, slice_shape,
+    stray_walks, unlike,
 };
 use bits::rank_select::RankSelect;
 use cursor::cursor::Cursor;
 use refusals::fault::Fault;
 use refusals::refusal::Refusal;
 use std::test::Fail;
+use store::store::RawStore;
 use words::heap::HeapWords;
 use words::lent::Lent;
 use words::part::Part;
-use words::reading::{GrowWords, ReadWords};
+use words::reading::{GrowStore, ReadStore};
 use words::table::Table64;
 
 #[test]
@@ -33,7 +34,7 @@ fn a_buffer_of_no_words(rt: HostRuntime) {
     assert!(rt; store.len() == 0);
     assert!(rt; store.capacity() == 0);
     assert_eq!(rt; store.put(1), Err(Fault::Full(0)));
-    assert_eq!(rt; store.word(0), Err(Fault::Outside(0)));
+    assert_eq!(rt; store.item(0), Err(Fault::Outside(0)));
 }
 
 #[test]
@@ -45,8 +46,8 @@ fn a_used_length_is_cut(rt: HostRuntime) {
     store.clear();
     assert_eq!(rt; store.put(4), Ok(()));
     assert!(rt; store.len() == 1);
-    assert_eq!(rt; store.word(0), Ok(4));
-    assert_eq!(rt; store.word(1), Err(Fault::Outside(1)));
+    assert_eq!(rt; store.item(0), Ok(4));
+    assert_eq!(rt; store.item(1), Err(Fault::Outside(1)));
 }
 
 #[test]
@@ -56,7 +57,7 @@ fn a_table_fills_at_64(rt: HostRuntime) -> Result<(), Fail> {
         table.put(i)?;
     }
     assert_eq!(rt; table.put(64), Err(Fault::Full(64)));
-    assert_eq!(rt; table.word(63), Ok(63));
+    assert_eq!(rt; table.item(63), Ok(63));
     Ok(())
 }
 
@@ -67,7 +68,7 @@ fn memory_is_reserved(rt: HostRuntime) -> Result<(), Fail> {
     store.put(5)?;
     store.put(6)?;
     assert_eq!(rt; store.put(7), Err(Fault::Full(2)));
-    assert_eq!(rt; store.word(1), Ok(6));
+    assert_eq!(rt; store.item(1), Ok(6));
     Ok(())
 }
 
@@ -76,8 +77,8 @@ fn a_part_only_reads(rt: HostRuntime) {
     let words = [3, 4];
     let part = Part::new(&words);
     assert!(rt; part.len() == 2);
-    assert_eq!(rt; part.word(1), Ok(4));
-    assert_eq!(rt; part.word(2), Err(Fault::Outside(2)));
+    assert_eq!(rt; part.item(1), Ok(4));
+    assert_eq!(rt; part.item(2), Err(Fault::Outside(2)));
 }
 
 #[test]
@@ -248,17 +249,29 @@ fn one_word_of_a_store_changed(rt: HostRuntime) {
 
 #[test]
 fn one_word_of_a_store_cut_or_added(rt: HostRuntime) {
-    assert_eq!(rt; check_number(&[40, 40, 40, 56, 72, 5, 3, 7], 4), 11);
-    assert_eq!(rt; check_number(&[40, 40, 40, 56, 72, 5, 3, 7, 9, 0], 4), 0);
-    assert_eq!(rt; check_number(&[], 0), 7);
+    assert_eq!(rt;
+        number_of(RawStore::new(&[40, 40, 40, 56, 72, 5, 3, 7]).check(4)),
+        11
+    );
+    assert_eq!(rt;
+        number_of(RawStore::new(&[40, 40, 40, 56, 72, 5, 3, 7, 9, 0]).check(4)),
+        0
+    );
+    assert_eq!(rt; number_of(RawStore::new(&[]).check(0)), 7);
 }
 
 #[test]
 fn slices_of_a_store(rt: HostRuntime) {
     let words = [40, 40, 40, 56, 67, 5, 3, 7, 9];
-    assert_eq!(rt; validate_number(&words, &[8, 8, 8, 8]), 13);
-    assert_eq!(rt; validate_number(&words, &[8, 8, 8, 1]), 0);
-    assert_eq!(rt; validate_number(&words, &[8, 8, 8, 0]), 13);
+    assert_eq!(rt;
+        number_of(RawStore::new(&words).validate(&[8, 8, 8, 8])),
+        13
+    );
+    assert_eq!(rt; number_of(RawStore::new(&words).validate(&[8, 8, 8, 1])), 0);
+    assert_eq!(rt;
+        number_of(RawStore::new(&words).validate(&[8, 8, 8, 0])),
+        13
+    );
     assert_eq!(rt; slice_shape(&words, 4, 0), Ok((0, 0)));
     assert_eq!(rt; slice_shape(&words, 4, 2), Ok((2, 0)));
     assert_eq!(rt; slice_shape(&words, 4, 3), Ok((2, 3)));

@@ -2,7 +2,7 @@ ghost use Rattle.std.specs.Prelude.{◌≡◌, ◌≤◌, []};
 ghost use Rattle.columns.specs.Kinds.{most_items};
 ghost use Rattle.columns.specs.Plain.{within, within_answer};
 ghost use Rattle.empties.specs.Counts.{units};
-ghost use Rattle.std.proofs.Common.{arith, rules};
+ghost use Rattle.std.proofs.Common.{arith, rules, le-leb};
 ghost use Rattle.empties.specs.Units.{units_length, each_unit};
 ghost use Rattle.columns.specs.Kinds;
 ghost use Rattle.columns.proofs.Within.{within_begins, within_asks, within_third};
@@ -18,13 +18,13 @@ use words::reading::MOST;
 #[derive(Clone, Copy)]
 pub struct Empties {
     count: usize,
+    ghost few: { count ≤ most_items },
 }
 
 impl Empties {
     // No items.
     pub fn new() -> Self
-        ensures list { units result.count ≡ [] }
-        ensures sound { result.count ≤ most_items }
+        ensures { units result.count ≡ [] }
     {
         Empties { count: 0 }
     }
@@ -39,14 +39,13 @@ impl Column for Empties {
 
     ghost items = { λ s. units s.count };
 
-    ghost sound = { λ s. s.count ≤ most_items };
-
-    ghost lawful = { λ s h. record { few = omega (arith, units_length s.count); each = each_unit (units s.count) } };
+    ghost lawful = { λ s. record { few = omega (arith, units_length s.count, s.few); each = each_unit (units s.count) } };
 
     fn len(&self) -> usize {
         self.count
     }
 
+    #[tactic(auto, using(words::proofs::Got::got_outside, crate::specs::Units::units_length, crate::specs::Units::unit_at))]
     fn get(&self, i: usize) -> Result<(), Fault> {
         if i >= self.count {
             return Err(Fault::Outside(i));
@@ -60,6 +59,8 @@ impl Payload for Empties {
 
     ghost ask = { λ _. within_answer most_items };
 
+    ghost holds = { λ s. le-leb _ _ (omega (arith, units_length s.count, s.few)) };
+
     ghost empty = { Prim.search rules };
 
     ghost begins = { λ s xs ys e. within_begins Kinds.most_items xs ys e };
@@ -67,8 +68,6 @@ impl Payload for Empties {
     ghost asks = { λ s xs ys. within_asks Kinds.most_items xs ys };
 
     ghost third = { λ s xs ys f e. within_third Kinds.most_items xs ys f e };
-
-    fn held(&self) {}
 
     fn fits(&self, _x: ()) -> Result<(), Fault> {
         if self.count >= MOST {
@@ -97,6 +96,7 @@ impl Payload for Empties {
         Ok(())
     }
 
+    #[tactic(auto, using(crate::specs::Units::append_longer))]
     fn append(&mut self, source: &Self, start: usize, end: usize) -> Result<(), Fault> {
         self.fits_range(source, start, end)?;
         if start < end {

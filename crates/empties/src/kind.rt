@@ -1,10 +1,11 @@
 ghost use Rattle.std.specs.Prelude.{◌≡◌, false, [], ◌∷◌, length};
+ghost use Rattle.std.specs.Coded.{Unit-prop};
 ghost use Rattle.empties.specs.Counts.{count_slice};
 ghost use Rattle.std.proofs.Common.{ap, rules};
 ghost use Rattle.empties.specs.Counts;
 ghost use Rattle.empties.specs.Units.{units_same};
 
-use columns::kind::Kind;
+use columns::kind::{Kind, sole_size};
 
 // Units are stored as one slice of one word, their number.
 pub enum EmptiesKind {}
@@ -14,6 +15,8 @@ impl Kind<()> for EmptiesKind {
 
     // every unit fits
     ghost fit = { λ _. Unit {0} };
+
+    ghost alone = { λ _. Unit-prop };
 
     ghost form = { λ xs. count_slice xs ∷ [] };
 
@@ -36,6 +39,6 @@ impl Kind<()> for EmptiesKind {
     }
 
     fn element_size(k: usize) -> usize {
-        if k == 0 { 8 } else { 0 }
+        sole_size(k, 8)
     }
 }

@@ -1,12 +1,10 @@
 // Wrappers that Rust or C can link, over buffers that the caller owns: for measuring beside the crate.
 #![tactic(auto)]
 
-ghost use Rattle.bits.specs.Columns.{SoundIn};
-
 use bits::rank_select::RankSelect;
 use cursor::cursor::Cursor;
 use words::lent::Lent;
-use words::reading::{GrowWords, ReadWords};
+use words::reading::{GrowStore, ReadStore};
 
 pub mod visits;
 
@@ -19,33 +17,40 @@ pub(crate) fn pattern_bit(pattern: &[u64], i: usize) -> bool {
 }
 
 // Pushes `n` bits of a pattern, one by one.
-fn push_each<C: GrowWords, V: GrowWords>(column: &mut RankSelect<C, V>, pattern: &[u64], n: usize)
-    requires { SoundIn C.ReadWords V.ReadWords column.old }
-    ensures { SoundIn C.ReadWords V.ReadWords column.new }
-{
+fn push_each<C: GrowStore<Item = u64>, V: GrowStore<Item = u64>>(
+    column: &mut RankSelect<C, V>,
+    pattern: &[u64],
+    n: usize,
+) {
     for i in 0..n {
         let _ = column.push(pattern_bit(pattern, i));
     }
 }
 
 // Pushes `n` words of a pattern, a group of 64 bits each.
-fn push_groups<C: GrowWords, V: GrowWords>(column: &mut RankSelect<C, V>, pattern: &[u64])
-    requires { SoundIn C.ReadWords V.ReadWords column.old }
-    ensures { SoundIn C.ReadWords V.ReadWords column.new }
-{
+fn push_groups<C: GrowStore<Item = u64>, V: GrowStore<Item = u64>>(
+    column: &mut RankSelect<C, V>,
+    pattern: &[u64],
+) {
     for w in pattern {
         let _ = column.push_bits(*w, 64);
     }
 }
 
 // The number of ones, so that nothing that was done can be left out.
-fn ones<C: ReadWords, V: ReadWords>(column: &RankSelect<C, V>) -> usize
-    requires { SoundIn C.ReadWords V.ReadWords column.now }
-{
-    match column.rank(column.len()) {
-        Ok(n) => n,
-        Err(_) => 0,
-    }
+fn ones<C: ReadStore<Item = u64>, V: ReadStore<Item = u64>>(column: &RankSelect<C, V>) -> usize {
+    column.rank(column.len()).unwrap_or(0)
+}
+
+// The bits of a pattern over two buffers.
+fn filled<'a>(
+    counts: &'a mut [u64],
+    words: &'a mut [u64],
+    pattern: &[u64],
+) -> RankSelect<Lent<'a, u64>, Lent<'a, u64>> {
+    let mut column = RankSelect::new(Lent::new(counts, 0), Lent::new(words, 0));
+    push_groups(&mut column, pattern);
+    column
 }
 
 #[unsafe(no_mangle)]
@@ -66,9 +71,7 @@ pub extern "C" fn rumbykai_push_bits(
     words: &mut [u64],
     pattern: &[u64],
 ) -> usize {
-    let mut column = RankSelect::new(Lent::new(counts, 0), Lent::new(words, 0));
-    push_groups(&mut column, pattern);
-    ones(&column)
+    ones(&filled(counts, words, pattern))
 }
 
 // The sum of the ranks at some places, of the bits of a pattern.
@@ -79,8 +82,7 @@ pub extern "C" fn rumbykai_rank(
     pattern: &[u64],
     places: &[u64],
 ) -> u64 {
-    let mut column = RankSelect::new(Lent::new(counts, 0), Lent::new(words, 0));
-    push_groups(&mut column, pattern);
+    let column = filled(counts, words, pattern);
     let mut sum = 0u64;
     for p in places {
         if let Ok(n) = column.rank(*p as usize) {
@@ -98,8 +100,7 @@ pub extern "C" fn rumbykai_select(
     pattern: &[u64],
     ranks: &[u64],
 ) -> u64 {
-    let mut column = RankSelect::new(Lent::new(counts, 0), Lent::new(words, 0));
-    push_groups(&mut column, pattern);
+    let column = filled(counts, words, pattern);
     let mut sum = 0u64;
     for r in ranks {
         if let Some(p) = column.select(*r) {
@@ -110,32 +111,26 @@ pub extern "C" fn rumbykai_select(
 }
 
 // Appends ranges of a source, which are given as pairs of start and end, to a column that is cleared
-// before each round.
-fn append_ranges<C: GrowWords, V: GrowWords, D: ReadWords, S: ReadWords>(
-    column: &mut RankSelect<C, V>,
-    source: &RankSelect<D, S>,
-    ranges: &[u64],
-)
-    requires column { SoundIn C.ReadWords V.ReadWords column.old }
-    requires source { SoundIn D.ReadWords S.ReadWords source.now }
-    ensures { SoundIn C.ReadWords V.ReadWords column.new }
-{
+// before each round. Twice here, as for visits: a bit column is no payload column, since it refuses an
+// empty range past its source.
+fn append_ranges<
+    C: GrowStore<Item = u64>,
+    V: GrowStore<Item = u64>,
+    D: ReadStore<Item = u64>,
+    S: ReadStore<Item = u64>,
+>(column: &mut RankSelect<C, V>, source: &RankSelect<D, S>, ranges: &[u64]) {
     column.clear();
-    for i in 0..ranges.len() / 2 {
-        let _ = column.append(source, ranges[2 * i] as usize, ranges[2 * i + 1] as usize);
+    for range in ranges.chunks_exact(2) {
+        let _ = column.append(source, range[0] as usize, range[1] as usize);
     }
 }
 
-fn append_rounds<C: GrowWords, V: GrowWords, D: ReadWords, S: ReadWords>(
-    column: &mut RankSelect<C, V>,
-    source: &RankSelect<D, S>,
-    ranges: &[u64],
-    rounds: usize,
-)
-    requires column { SoundIn C.ReadWords V.ReadWords column.old }
-    requires source { SoundIn D.ReadWords S.ReadWords source.now }
-    ensures { SoundIn C.ReadWords V.ReadWords column.new }
-{
+fn append_rounds<
+    C: GrowStore<Item = u64>,
+    V: GrowStore<Item = u64>,
+    D: ReadStore<Item = u64>,
+    S: ReadStore<Item = u64>,
+>(column: &mut RankSelect<C, V>, source: &RankSelect<D, S>, ranges: &[u64], rounds: usize) {
     for _ in 0..rounds {
         append_ranges(column, source, ranges);
     }
@@ -151,32 +146,27 @@ pub extern "C" fn rumbykai_append(
     ranges: &[u64],
     rounds: usize,
 ) -> usize {
-    let mut source = RankSelect::new(Lent::new(source_counts, 0), Lent::new(source_words, 0));
-    push_groups(&mut source, pattern);
+    let source = filled(source_counts, source_words, pattern);
     let mut column = RankSelect::new(Lent::new(counts, 0), Lent::new(words, 0));
     append_rounds(&mut column, &source, ranges, rounds);
     ones(&column)
 }
 
 // The sum of the places of all ones, by a walk from one to the next.
-fn walk_ones<C: ReadWords, V: ReadWords>(column: &RankSelect<C, V>) -> u64
-    requires { SoundIn C.ReadWords V.ReadWords column.now }
-{
+fn walk_ones<C: ReadStore<Item = u64>, V: ReadStore<Item = u64>>(column: &RankSelect<C, V>) -> u64 {
     let mut cursor = Cursor::new(column);
     let mut sum = 0u64;
     for _ in 0..column.len() {
-        match cursor.next_one(column) {
-            Ok(Some(p)) => sum = sum.wrapping_add(p as u64),
-            _ => break,
-        }
+        let Ok(Some(p)) = cursor.next_one(column) else {
+            break;
+        };
+        sum = sum.wrapping_add(p as u64);
     }
     sum
 }
 
 // The number of ones, by a walk over all bits.
-fn walk_bits<C: ReadWords, V: ReadWords>(column: &RankSelect<C, V>) -> u64
-    requires { SoundIn C.ReadWords V.ReadWords column.now }
-{
+fn walk_bits<C: ReadStore<Item = u64>, V: ReadStore<Item = u64>>(column: &RankSelect<C, V>) -> u64 {
     let mut cursor = Cursor::new(column);
     let mut sum = 0u64;
     for _ in 0..column.len() {
@@ -187,6 +177,7 @@ fn walk_bits<C: ReadWords, V: ReadWords>(column: &RankSelect<C, V>) -> u64
     sum
 }
 
+// A flag says which walk: the C interface.
 #[unsafe(no_mangle)]
 pub extern "C" fn rumbykai_walk(
     counts: &mut [u64],
@@ -194,8 +185,7 @@ pub extern "C" fn rumbykai_walk(
     pattern: &[u64],
     ones_only: bool,
 ) -> u64 {
-    let mut column = RankSelect::new(Lent::new(counts, 0), Lent::new(words, 0));
-    push_groups(&mut column, pattern);
+    let column = filled(counts, words, pattern);
     if ones_only {
         walk_ones(&column)
     } else {

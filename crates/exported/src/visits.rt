@@ -1,17 +1,27 @@
 // Results of words and bytes over buffers that the caller owns.
-ghost use Rattle.std.specs.Prelude.{◌≡◌};
-
 use crate::pattern_bit;
-use byte_items::lent::LentBytes;
+use byte_items::kind::Bytes;
 use columns::column::{Column, Payload, Variant};
-use columns::kind::Kind;
-use items::item_store::{GrowItems, ReadItems};
-use items::items::Items;
-use items::word_items::WordItems;
-use refusals::refusal::Refusal;
+use items::items::Words;
 use results::results::Results;
 use words::lent::Lent;
-use words::reading::{GrowWords, ReadWords};
+
+// Visits over buffers of marks, times and codes.
+type Visits<'a> = Results<Words<Lent<'a, u64>>, Bytes<Lent<'a, u8>>, Lent<'a, u64>, Lent<'a, u64>>;
+
+fn no_visits<'a>(
+    counts: &'a mut [u64],
+    words: &'a mut [u64],
+    times: &'a mut [u64],
+    codes: &'a mut [u8],
+) -> Visits<'a> {
+    Results::new(
+        Lent::new(counts, 0),
+        Lent::new(words, 0),
+        Words::new(Lent::new(times, 0)),
+        Bytes::new(Lent::new(codes, 0)),
+    )
+}
 
 // Entry `i` of a pattern: Ok with its number, or Err with a code.
 fn entry(pattern: &[u64], i: usize) -> Result<u64, u8> {
@@ -23,10 +33,7 @@ fn entry(pattern: &[u64], i: usize) -> Result<u64, u8> {
 }
 
 // Clears a column and pushes `n` entries of a pattern.
-fn fill<C: Payload + Column<Item = Result<u64, u8>>>(column: &mut C, pattern: &[u64], n: usize)
-    requires { C.Column.sound column.old }
-    ensures { C.Column.sound column.new }
-{
+fn fill<C: Payload + Column<Item = Result<u64, u8>>>(column: &mut C, pattern: &[u64], n: usize) {
     column.clear();
     for i in 0..n {
         let _ = column.push(entry(pattern, i));
@@ -39,59 +46,41 @@ fn fill_rounds<C: Payload + Column<Item = Result<u64, u8>>>(
     pattern: &[u64],
     n: usize,
     rounds: usize,
-)
-    requires { C.Column.sound column.old }
-    ensures { C.Column.sound column.new }
-{
+) {
     for _ in 0..rounds {
         fill(column, pattern, n);
     }
 }
 
 // The sum of what stands at some places.
-fn total<C: Column<Item = Result<u64, u8>>>(column: &C, places: &[u64]) -> u64
-    requires { C.Column.sound column.now }
-{
+fn total<C: Column<Item = Result<u64, u8>>>(column: &C, places: &[u64]) -> u64 {
     let mut sum = 0u64;
     for p in places {
-        if let Ok(x) = column.get(*p as usize) {
-            match x {
-                Ok(v) => sum = sum.wrapping_add(v),
-                Err(w) => sum = sum.wrapping_add(w as u64),
-            }
+        if let Ok(visit) = column.get(*p as usize) {
+            let told = visit.unwrap_or_else(|code| code as u64);
+            sum = sum.wrapping_add(told);
         }
     }
     sum
 }
 
 // Appends ranges of a source, given as pairs of start and end, to a column that is cleared first.
-fn append_pairs<C: Payload>(column: &mut C, source: &C, ranges: &[u64])
-    requires { (C.Column.sound column.old) × (C.Column.sound source.now) }
-    ensures { C.Column.sound column.new }
-{
+fn append_pairs<C: Payload>(column: &mut C, source: &C, ranges: &[u64]) {
     column.clear();
-    for i in 0..ranges.len() / 2 {
-        let _ = column.append(source, ranges[2 * i] as usize, ranges[2 * i + 1] as usize);
+    for range in ranges.chunks_exact(2) {
+        let _ = column.append(source, range[0] as usize, range[1] as usize);
     }
 }
 
-fn append_again<C: Payload>(column: &mut C, source: &C, ranges: &[u64], rounds: usize)
-    requires { (C.Column.sound column.old) × (C.Column.sound source.now) }
-    ensures { C.Column.sound column.new }
-{
+fn append_again<C: Payload>(column: &mut C, source: &C, ranges: &[u64], rounds: usize) {
     for _ in 0..rounds {
         append_pairs(column, source, ranges);
     }
 }
 
 // The Ok entries, so that nothing that was done can be left out.
-fn marked<C: Variant>(column: &C) -> usize
-    requires { C.Column.sound column.now }
-{
-    match column.rank(column.len()) {
-        Ok(n) => n,
-        Err(_) => 0,
-    }
+fn marked<C: Variant>(column: &C) -> usize {
+    column.rank(column.len()).unwrap_or(0)
 }
 
 #[unsafe(no_mangle)]
@@ -104,12 +93,7 @@ pub extern "C" fn rumbykai_results_push(
     n: usize,
     rounds: usize,
 ) -> usize {
-    let mut column = Results::new(
-        Lent::new(counts, 0),
-        Lent::new(words, 0),
-        Items::new(WordItems::new(Lent::new(times, 0))),
-        Items::new(LentBytes::new(codes, 0)),
-    );
+    let mut column = no_visits(counts, words, times, codes);
     fill_rounds(&mut column, pattern, n, rounds);
     marked(&column)
 }
@@ -124,12 +108,7 @@ pub extern "C" fn rumbykai_results_get(
     n: usize,
     places: &[u64],
 ) -> u64 {
-    let mut column = Results::new(
-        Lent::new(counts, 0),
-        Lent::new(words, 0),
-        Items::new(WordItems::new(Lent::new(times, 0))),
-        Items::new(LentBytes::new(codes, 0)),
-    );
+    let mut column = no_visits(counts, words, times, codes);
     fill(&mut column, pattern, n);
     total(&column, places)
 }
@@ -154,19 +133,9 @@ pub extern "C" fn rumbykai_results_append(
     let (own_times, source_times) = times.split_at_mut(half);
     let half = codes.len() / 2;
     let (own_codes, source_codes) = codes.split_at_mut(half);
-    let mut source = Results::new(
-        Lent::new(source_counts, 0),
-        Lent::new(source_words, 0),
-        Items::new(WordItems::new(Lent::new(source_times, 0))),
-        Items::new(LentBytes::new(source_codes, 0)),
-    );
+    let mut source = no_visits(source_counts, source_words, source_times, source_codes);
     fill(&mut source, pattern, n);
-    let mut column = Results::new(
-        Lent::new(own_counts, 0),
-        Lent::new(own_words, 0),
-        Items::new(WordItems::new(Lent::new(own_times, 0))),
-        Items::new(LentBytes::new(own_codes, 0)),
-    );
+    let mut column = no_visits(own_counts, own_words, own_times, own_codes);
     append_again(&mut column, &source, ranges, rounds);
     marked(&column)
 }

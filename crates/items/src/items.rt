@@ -1,57 +1,69 @@
 ghost use Rattle.std.specs.Prelude.{◌≡◌, ℕ, ◌+◌, ◌-◌, ◌<◌, ◌≤◌, true, List, [], ◌∷◌, ◌++◌, length, Ok, Err};
-ghost use Rattle.columns.specs.Kinds.{Lawful, Each};
-ghost use Rattle.columns.specs.Plain.{got, part, within, within_answer};
-ghost use Rattle.std.proofs.Common.{rules};
+ghost use Rattle.columns.specs.Kinds.{Each, most_items};
+ghost use Rattle.columns.specs.Plain.{part, within, within_answer};
+ghost use Rattle.std.proofs.Common.{rules, le-leb};
+ghost use Rattle.columns.proofs.Lists.{each_alone};
 ghost use Rattle.columns.proofs.Within.{within_begins, within_asks, within_third};
 
-use crate::item_store::{GrowItems, ReadItems, item_of, put_in};
+use crate::kind::WordsKind;
 use columns::column::{Column, Payload};
-use columns::kind::Kind;
+use columns::kind::{Kind, Plain};
 use refusals::fault::Fault;
 use refusals::refusal::Refusal;
+use std::marker::PhantomData;
+use words::reading::{GrowStore, Owned, ReadStore, item_of, put_in};
 
 // Plain items, one after the other: the store's capacity is the limit.
 #[derive(Drop)]
-pub struct Items<S> {
+pub struct Items<S: ReadStore, K: Plain<S::Item>> {
     store: S,
+    kind: PhantomData<K>,
+    owned: Owned,
+    ghost few: { length (S.ReadStore.list store) ≤ most_items },
+    ghost each: { Each K.Kind.fit (S.ReadStore.list store) } by { each_alone K.Kind.fit K.Kind.alone (S.ReadStore.list store) },
 }
 
-impl<S: GrowItems> Items<S> {
+// A column of words over any store of them.
+pub type Words<S> = Items<S, WordsKind>;
+
+impl<S: GrowStore, K: Plain<S::Item>> Items<S, K> {
     // No items, over a store that is cleared.
     pub fn new(mut store: S) -> Self
-        ensures list { S.ReadItems.list result.store ≡ [] }
-        ensures sound { Lawful S.Kind.Kind.fit (S.ReadItems.list result.store) }
-        ensures room { S.GrowItems.room result.store ≡ S.GrowItems.room store }
+        ensures list { S.ReadStore.list result.store ≡ [] }
+        ensures room { S.GrowStore.room result.store ≡ S.GrowStore.room store }
     {
         store.clear();
-        Items { store }
-    }
-
-    // Adds items `start` to `end - 1` of a source, for which there is room.
-    fn add_range(&mut self, source: &Self, start: usize, end: usize)
-        requires range { (start ≤ end) × (end ≤ length (S.ReadItems.list source.now.store)) }
-        requires room { length (S.ReadItems.list self.old.store) + (end - start) ≤ S.GrowItems.room self.old.store }
-        ensures list { S.ReadItems.list self.new.store ≡ S.ReadItems.list self.old.store ++ part (S.ReadItems.list source.now.store) start end }
-        ensures room { S.GrowItems.room self.new.store ≡ S.GrowItems.room self.old.store }
-    {
-        for i in start..end {
-            put_in(&mut self.store, item_of(&source.store, i));
+        Items {
+            store,
+            kind: PhantomData,
+            owned: [],
         }
     }
 }
 
-impl<S: ReadItems> Column for Items<S> {
+// Adds items `start` to `end - 1` of a source to a store that has room for them.
+#[tactic(auto, using(columns::proofs::Lists::length_part))]
+fn add_range<S: GrowStore>(store: &mut S, source: &S, start: usize, end: usize)
+    requires range { (start ≤ end) × (end ≤ length (S.ReadStore.list source.now)) }
+    requires room { length (S.ReadStore.list store.old) + (end - start) ≤ S.GrowStore.room store.old }
+    ensures list { S.ReadStore.list store.new ≡ S.ReadStore.list store.old ++ part (S.ReadStore.list source.now) start end }
+    ensures room { S.GrowStore.room store.new ≡ S.GrowStore.room store.old }
+{
+    for i in start..end {
+        put_in(store, item_of(source, i));
+    }
+}
+
+impl<S: ReadStore, K: Plain<S::Item>> Column for Items<S, K> {
     type Item = S::Item;
 
     type Fault = Fault;
 
-    type Kind = S::Kind;
+    type Kind = K;
 
-    ghost items = { λ s. S.ReadItems.list s.store };
+    ghost items = { λ s. S.ReadStore.list s.store };
 
-    ghost sound = { λ s. Lawful S.Kind.Kind.fit (S.ReadItems.list s.store) };
-
-    ghost lawful = { Prim.search rules };
+    ghost lawful = { λ s. record { few = s.few; each = s.each } };
 
     fn len(&self) -> usize {
         self.store.len()
@@ -62,23 +74,22 @@ impl<S: ReadItems> Column for Items<S> {
     }
 }
 
-impl<S: GrowItems> Payload for Items<S> {
-    ghost limit = { λ s. within (S.GrowItems.room s.store) };
+impl<S: GrowStore, K: Plain<S::Item>> Payload for Items<S, K> {
+    ghost limit = { λ s. within (S.GrowStore.room s.store) };
 
-    ghost ask = { λ s. within_answer (S.GrowItems.room s.store) };
+    ghost ask = { λ s. within_answer (S.GrowStore.room s.store) };
+
+    ghost holds = { λ s. le-leb _ _ (S.GrowStore.within s.store) };
 
     ghost empty = { Prim.search rules };
 
-    ghost begins = { λ s xs ys e. within_begins (S.GrowItems.room s.store) xs ys e };
+    ghost begins = { λ s xs ys e. within_begins (S.GrowStore.room s.store) xs ys e };
 
-    ghost asks = { λ s xs ys. within_asks (S.GrowItems.room s.store) xs ys };
+    ghost asks = { λ s xs ys. within_asks (S.GrowStore.room s.store) xs ys };
 
-    ghost third = { λ s xs ys f e. within_third (S.GrowItems.room s.store) xs ys f e };
+    ghost third = { λ s xs ys f e. within_third (S.GrowStore.room s.store) xs ys f e };
 
-    fn held(&self) {
-        let _room = self.store.capacity();
-    }
-
+    #[tactic(auto, using(columns::proofs::Within::answer_over, columns::proofs::Within::answer_fits, columns::proofs::Within::one_more))]
     fn fits(&self, _x: S::Item) -> Result<(), Fault> {
         let n = self.store.len();
         if n >= self.store.capacity() {
@@ -102,16 +113,14 @@ impl<S: GrowItems> Payload for Items<S> {
     }
 
     fn push(&mut self, x: S::Item) -> Result<(), Fault> {
-        // asked for its promise that no capacity is above the most items
-        let _ = self.store.capacity();
+        K::fits(x);
         self.store.put(x)
     }
 
     fn append(&mut self, source: &Self, start: usize, end: usize) -> Result<(), Fault> {
         self.fits_range(source, start, end)?;
-        let _ = self.store.capacity();
         if start < end {
-            self.add_range(source, start, end);
+            add_range(&mut self.store, &source.store, start, end);
         }
         Ok(())
     }

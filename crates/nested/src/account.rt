@@ -25,8 +25,6 @@ pub fn push_each<C: Payload, R: Print>(
 ) -> io::Result<()>
 where
     C::Fault: fmt::Display,
-    requires { C.Column.sound column.old }
-    ensures { C.Column.sound column.new }
 {
     for (i, entry) in entries.iter().enumerate() {
         if let Err(f) = column.push(*entry) {
@@ -41,14 +39,13 @@ pub fn tell<C: Variant, R: Print>(rt: &R, title: &str, column: &C) -> io::Result
 where
     C::Item: fmt::Debug,
     C::Fault: fmt::Display,
-    requires { C.Column.sound column.now }
 {
     let n = column.len();
     match column.rank(n) {
         Ok(marked) => println!(rt; "{title}: {n} entries, {marked} marked")?,
         Err(f) => println!(rt; "{title}: {f}")?,
     }
-    for i in 0..n + 1 {
+    for i in 0..=n {
         match column.get(i) {
             Ok(entry) => println!(rt; "  {i}: {entry:?}")?,
             Err(f) => println!(rt; "  {i}: {f}")?,

@@ -3,39 +3,38 @@
 #![tactic(auto)]
 
 use account::{push_each, report, tell};
-use byte_items::lent::LentBytes;
+use byte_items::kind::Bytes;
 use columns::column::Payload;
-use items::item_store::GrowItems;
-use items::items::Items;
-use items::word_items::WordItems;
+use items::items::Words;
 use options::options::Options;
 use results::results::Results;
 use std::io;
 use words::heap::HeapWords;
 use words::lent::Lent;
-use words::reading::GrowWords;
 use words::table::Table64;
 
 mod account;
+
+// Visits with their times in a table, and their codes in a lent buffer.
+type Visits<'a> = Results<Words<Table64>, Bytes<Lent<'a, u8>>, Table64, Table64>;
+
+fn in_tables<'a>(codes: &'a mut [u8]) -> Visits<'a> {
+    Results::new(
+        Table64::new(),
+        Table64::new(),
+        Words::new(Table64::new()),
+        Bytes::new(Lent::new(codes, 0)),
+    )
+}
 
 // Reached with a time, or missed with a code: times in a table, codes in a lent buffer of four.
 fn reached_or_missed(rt: &HostRuntime) -> io::Result<()> {
     let mut codes = [0u8; 4];
     let mut joined_codes = [0u8; 4];
-    let mut day = Results::new(
-        Table64::new(),
-        Table64::new(),
-        Items::new(WordItems::new(Table64::new())),
-        Items::new(LentBytes::new(&mut codes, 0)),
-    );
+    let mut day = in_tables(&mut codes);
     push_each(rt, &mut day, &[Ok(500), Err(3), Ok(800), Err(4), Err(3)])?;
     tell(rt, "a day: times in a table, codes in a lent buffer", &day)?;
-    let mut week = Results::new(
-        Table64::new(),
-        Table64::new(),
-        Items::new(WordItems::new(Table64::new())),
-        Items::new(LentBytes::new(&mut joined_codes, 0)),
-    );
+    let mut week = in_tables(&mut joined_codes);
     report(rt, "append entries 0 to 4", week.append(&day, 0, 5))?;
     report(rt, "append entries 1 to 4", week.append(&day, 1, 5))?;
     report(rt, "append entries 2 to 3", week.append(&day, 2, 4))?;
@@ -52,7 +51,7 @@ fn perhaps_a_time(rt: &HostRuntime) -> io::Result<()> {
     let mut route = Options::new(
         Lent::new(&mut counts, 0),
         Lent::new(&mut marks, 0),
-        Items::new(WordItems::new(Lent::new(&mut times, 0))),
+        Words::new(Lent::new(&mut times, 0)),
     );
     push_each(
         rt,
@@ -74,8 +73,8 @@ fn open_reached_or_missed(rt: &HostRuntime) -> io::Result<()> {
         Results::new(
             HeapWords::new(heap, 1)?,
             HeapWords::new(heap, 1)?,
-            Items::new(WordItems::new(HeapWords::new(heap, 2)?)),
-            Items::new(LentBytes::new(&mut codes, 0)),
+            Words::new(HeapWords::new(heap, 2)?),
+            Bytes::new(Lent::new(&mut codes, 0)),
         ),
     );
     push_each(
@@ -97,16 +96,7 @@ fn open_reached_or_missed(rt: &HostRuntime) -> io::Result<()> {
 fn open_joined(rt: &HostRuntime) -> io::Result<()> {
     let mut codes = [0u8; 8];
     let mut joined_codes = [0u8; 1];
-    let mut week = Options::new(
-        Table64::new(),
-        Table64::new(),
-        Results::new(
-            Table64::new(),
-            Table64::new(),
-            Items::new(WordItems::new(Table64::new())),
-            Items::new(LentBytes::new(&mut codes, 0)),
-        ),
-    );
+    let mut week = Options::new(Table64::new(), Table64::new(), in_tables(&mut codes));
     push_each(
         rt,
         &mut week,
@@ -118,16 +108,7 @@ fn open_joined(rt: &HostRuntime) -> io::Result<()> {
             Some(Err(4)),
         ],
     )?;
-    let mut joined = Options::new(
-        Table64::new(),
-        Table64::new(),
-        Results::new(
-            Table64::new(),
-            Table64::new(),
-            Items::new(WordItems::new(Table64::new())),
-            Items::new(LentBytes::new(&mut joined_codes, 0)),
-        ),
-    );
+    let mut joined = Options::new(Table64::new(), Table64::new(), in_tables(&mut joined_codes));
     report(rt, "append entries 1 to 3", joined.append(&week, 1, 4))?;
     report(rt, "append entries 0 to 4", joined.append(&week, 0, 5))?;
     report(rt, "append entries 0 to 1", joined.append(&week, 0, 2))?;

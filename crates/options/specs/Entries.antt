@@ -1,6 +1,5 @@
 -- A list of options: its marks say which entries are Some, its somes what those hold.
-use Rattle.std.specs.Prelude.{◌≡◌, Bool, true, false, List, [], ◌∷◌, length, is_some, Some, None, Option}
-use Rattle.bitlaws.specs.Bits.{ones_among}
+use Rattle.std.specs.Prelude.{Bool, true, false, List, [], ◌∷◌, is_some, Some, None, Option}
 use Rattle.columns.specs.Plain.{marks}
 use Rattle.columns.specs.Variants.{picked}
 
@@ -24,9 +23,3 @@ merge (true ∷ bs) (s ∷ ss) = Some s ∷ merge bs ss
 abbrev pub Fits : {A : Type 0} → (A → Type 0) → Option A → Type 0
 Fits P None = Unit {0}
 Fits P (Some x) = P x
-
--- a column of options is sound: its marks are, its payload is, and there is one item for each one
-pub record Sound {A : Type 0} (Marked Held : Type 0) (bs : List Bool) (ss : List A) : Type 0 where
-  pub marked : Marked
-  pub held : Held
-  pub many : length ss ≡ ones_among bs

@@ -4,8 +4,10 @@ use Rattle.std.proofs.Common.{ap, sym, ◌∙◌, subst, arith}
 use Rattle.std.proofs.lemmas.List.{map-append, length-map, take-map, drop-map, get_or-map}
 use Rattle.bitlaws.specs.Bits.{ones_among, rank_of}
 use Rattle.columns.specs.Kinds.{Each, Lawful}
-use Rattle.columns.specs.Plain.{got, part}
-use Rattle.columns.proofs.Lists.{got_inside}
+use Rattle.std.specs.Coded.{Unit-prop}
+use Rattle.words.specs.Words.{got}
+use Rattle.words.proofs.Got.{got_inside}
+use Rattle.columns.specs.Plain.{part}
 use Rattle.columns.proofs.Picked.{picked_append, picked_length, picked_part, picked_at}
 use Rattle.options.specs.Entries.{some_marks, somes, merge, Fits}
 
@@ -57,6 +59,10 @@ pub somes_fewer : {A : Type 0} (xs : List (Option A)) → length (somes xs) ≤ 
 somes_fewer [] = omega arith
 somes_fewer (None ∷ xs) = let h = somes_fewer xs in omega arith
 somes_fewer (Some x ∷ xs) = let h = somes_fewer xs in omega arith
+
+pub fits_alone : {A : Type 0} (P : A → Type 0) → ((x : A) → IsProp (P x)) → (o : Option A) → IsProp (Fits P o)
+fits_alone P h None = Unit-prop
+fits_alone P h (Some x) = h x
 
 pub lawful_somes : {A : Type 0} (P : A → Type 0) (xs : List (Option A)) → Lawful (Fits P) xs → Lawful P (somes xs)
 lawful_somes P xs h = record { few = omega (arith, h.few, somes_fewer xs); each = each_somes P xs h.each }

@@ -5,11 +5,19 @@ use Rattle.std.proofs.lemmas.Bool.{and_parts}
 use Rattle.std.specs.Result.{result_map_both}
 use Rattle.refusals.specs.Faults.{number_of}
 use Rattle.refusals.specs.declared.fault.Fault.TheVariants.{Full}
+use Rattle.bitlaws.specs.Bits.{ones_among}
 use Rattle.columns.proofs.Picked.{picked_append}
 use Rattle.options.specs.declared.fault.OptionsFault.{OptionsFault}
 use Rattle.options.specs.declared.fault.OptionsFault.TheVariants.{Own, Somes}
-use Rattle.options.specs.Entries.{somes}
+use Rattle.options.specs.Entries.{merge, somes}
+use Rattle.options.specs.EntriesLemmas.{merge_length, somes_merge}
 use Rattle.options.specs.Limits.{limited, asked}
+
+-- marks and items within their limits are within that of the column
+pub limited_held : {A : Type 0} (room : ℕ → Bool) (limit : List A → Bool) (bs : List Bool) (ss : List A) → length ss ≡ ones_among bs → room (length bs) ≡ true → limit ss ≡ true → limited room limit (merge bs ss) ≡ true
+limited_held room limit bs ss many marks items =
+    let a : room (length (merge bs ss)) ≡ true = ap room (merge_length bs ss many) ∙ marks in
+    rw (a, somes_merge bs ss many, items)
 
 module _ {A F : Type 0} (room : ℕ → Bool) (lim : List A → Bool) (ask : List A → List A → Result (Unit {0}) F) where
   pub limit_begins : ((m n : ℕ) → m ≤ n → room n ≡ true → room m ≡ true) → ((xs ys : List A) → lim (xs ++ ys) ≡ true → lim xs ≡ true) → (xs ys : List (Option A)) → limited room lim (xs ++ ys) ≡ true → limited room lim xs ≡ true

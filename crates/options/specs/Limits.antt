@@ -1,6 +1,6 @@
 -- The limit and the refusals of a column of options, from those of its parts: `room` says how many marks
 -- there may be, `limit` and `ask` are the payload's.
-use Rattle.std.specs.Prelude.{ℕ, Bool, cond, ◌&&◌, List, length, Err, Option, Result}
+use Rattle.std.specs.Prelude.{ℕ, Bool, if◌then◌else◌, ◌&&◌, List, length, Err, Option, Result}
 use Rattle.std.specs.Result.{result_map_both}
 use Rattle.refusals.specs.declared.fault.Fault.TheVariants.{Full}
 use Rattle.options.specs.declared.fault.OptionsFault.{OptionsFault}
@@ -13,4 +13,4 @@ limited room limit xs = room (length xs) && limit (somes xs)
 
 -- making `new` of `old`: refusal 3 of the marks, with the length before; else what the payload says
 abbrev pub asked : {A F : Type 0} → (ℕ → Bool) → (List A → List A → Result (Unit {0}) F) → List (Option A) → List (Option A) → Result (Unit {0}) (OptionsFault F)
-asked room ask old new = cond (room (length new)) (result_map_both (λ u. u) Somes (ask (somes old) (somes new))) (Err (Own (Full (length old))))
+asked room ask old new = if room (length new) then result_map_both (λ u. u) Somes (ask (somes old) (somes new)) else Err (Own (Full (length old)))

@@ -1,9 +1,10 @@
 ghost use Rattle.std.specs.Prelude.{◌≡◌, ℕ, true, List, [], ◌∷◌, ◌++◌, length, Ok, Err};
-ghost use Rattle.bits.specs.Columns.{SoundIn, column_bits, room_in};
-ghost use Rattle.options.specs.Entries.{merge, Sound};
+ghost use Rattle.bits.specs.Columns.{column_bits, room_in};
+ghost use Rattle.options.specs.Entries.{merge};
 ghost use Rattle.options.specs.Limits.{limited, asked};
 ghost use Rattle.bits.proofs.Growing.{fits_less};
-ghost use Rattle.options.specs.Limiting.{limit_begins, limit_asks, limit_third};
+ghost use Rattle.columns.proofs.Marked.{marks_within};
+ghost use Rattle.options.specs.Limiting.{limited_held, limit_begins, limit_asks, limit_third};
 ghost use Rattle.std.proofs.Common.{rules};
 
 use crate::fault::OptionsFault;
@@ -11,20 +12,19 @@ use crate::kind::OptionsKind;
 use crate::options::Options;
 use bits::rank_select::RankSelect;
 use columns::column::{Column, Payload};
-use columns::granted::{append_bits, append_items, bits_held, push_bit, rank_in};
+use columns::granted::{append_bits, append_items, push_bit, rank_in};
 use columns::kind::Kind;
 use refusals::fault::Fault;
 use refusals::refusal::Refusal;
-use words::reading::{GrowWords, ReadWords};
+use words::reading::{GrowStore, ReadStore};
 
-impl<T: Payload, C: GrowWords, V: GrowWords> Options<T, C, V> {
+impl<T: Payload, C: GrowStore<Item = u64>, V: GrowStore<Item = u64>> Options<T, C, V> {
+    #[tactic(auto, using(columns::proofs::Marked::ones_none))]
     // No entries, over two stores and a payload that are cleared.
     pub fn new(counts: C, values: V, mut somes: T) -> Self
-        requires { T.Column.sound somes }
-        ensures list { merge (column_bits V.ReadWords result.indexes) (T.Column.items result.somes) ≡ [] }
-        ensures sound { Sound (SoundIn C.ReadWords V.ReadWords result.indexes) (T.Column.sound result.somes) (column_bits V.ReadWords result.indexes) (T.Column.items result.somes) }
-        ensures room { V.GrowWords.room result.indexes.values.values ≡ V.GrowWords.room values }
-        ensures others { C.GrowWords.room result.indexes.counts ≡ C.GrowWords.room counts }
+        ensures list { merge (column_bits V.ReadStore result.indexes) (T.Column.items result.somes) ≡ [] }
+        ensures room { V.GrowStore.room result.indexes.values.values ≡ V.GrowStore.room values }
+        ensures others { C.GrowStore.room result.indexes.counts ≡ C.GrowStore.room counts }
         ensures limit { T.Payload.limit result.somes ≡ T.Payload.limit somes }
         ensures ask { T.Payload.ask result.somes ≡ T.Payload.ask somes }
     {
@@ -36,25 +36,24 @@ impl<T: Payload, C: GrowWords, V: GrowWords> Options<T, C, V> {
     }
 }
 
-impl<T: Payload, C: GrowWords, V: GrowWords> Payload for Options<T, C, V> {
-    ghost limit = { λ s. limited (room_in C.GrowWords.own V.GrowWords.own s.indexes) (T.Payload.limit s.somes) };
+impl<T: Payload, C: GrowStore<Item = u64>, V: GrowStore<Item = u64>> Payload for Options<T, C, V> {
+    ghost limit = { λ s. limited (room_in C.GrowStore.own V.GrowStore.own s.indexes) (T.Payload.limit s.somes) };
 
-    ghost ask = { λ s. asked (room_in C.GrowWords.own V.GrowWords.own s.indexes) (T.Payload.ask s.somes) };
+    ghost ask = { λ s. asked (room_in C.GrowStore.own V.GrowStore.own s.indexes) (T.Payload.ask s.somes) };
+
+    ghost holds = { λ s.
+        limited_held (room_in C.GrowStore.own V.GrowStore.own s.indexes) (T.Payload.limit s.somes) (column_bits V.ReadStore s.indexes) (T.Column.items s.somes) s.many
+        (marks_within s.indexes C.GrowStore.own V.GrowStore.own (C.GrowStore.within s.indexes.counts) (V.GrowStore.within s.indexes.values.values)) (T.Payload.holds s.somes) };
 
     ghost empty = { Prim.search rules };
 
     ghost begins = { λ s xs ys e.
-        limit_begins (room_in C.GrowWords.own V.GrowWords.own s.indexes) (T.Payload.limit s.somes) (T.Payload.ask s.somes)
-        (λ m n h. fits_less m n (V.GrowWords.room s.indexes.values.values) (C.GrowWords.room s.indexes.counts) h) (T.Payload.begins s.somes) xs ys e };
+        limit_begins (room_in C.GrowStore.own V.GrowStore.own s.indexes) (T.Payload.limit s.somes) (T.Payload.ask s.somes)
+        (λ m n h. fits_less m n (V.GrowStore.room s.indexes.values.values) (C.GrowStore.room s.indexes.counts) h) (T.Payload.begins s.somes) xs ys e };
 
-    ghost asks = { λ s xs ys. limit_asks (room_in C.GrowWords.own V.GrowWords.own s.indexes) (T.Payload.limit s.somes) (T.Payload.ask s.somes) (T.Payload.asks s.somes) xs ys };
+    ghost asks = { λ s xs ys. limit_asks (room_in C.GrowStore.own V.GrowStore.own s.indexes) (T.Payload.limit s.somes) (T.Payload.ask s.somes) (T.Payload.asks s.somes) xs ys };
 
-    ghost third = { λ s xs ys f e. limit_third (room_in C.GrowWords.own V.GrowWords.own s.indexes) (T.Payload.limit s.somes) (T.Payload.ask s.somes) T.Fault.Refusal.numbered (T.Payload.third s.somes) xs ys f e };
-
-    fn held(&self) {
-        bits_held(&self.indexes);
-        self.somes.held();
-    }
+    ghost third = { λ s xs ys f e. limit_third (room_in C.GrowStore.own V.GrowStore.own s.indexes) (T.Payload.limit s.somes) (T.Payload.ask s.somes) T.Fault.Refusal.numbered (T.Payload.third s.somes) xs ys f e };
 
     fn fits(&self, x: Option<T::Item>) -> Result<(), OptionsFault<T::Fault>> {
         let len = self.indexes.len();
@@ -62,14 +61,8 @@ impl<T: Payload, C: GrowWords, V: GrowWords> Payload for Options<T, C, V> {
             return Err(OptionsFault::Own(Fault::Full(len)));
         }
         match x {
-            Some(v) => {
-                self.somes.fits(v)?;
-                Ok(())
-            }
-            None => {
-                self.somes.held();
-                Ok(())
-            }
+            Some(v) => Ok(self.somes.fits(v)?),
+            None => Ok(()),
         }
     }
 
@@ -91,9 +84,7 @@ impl<T: Payload, C: GrowWords, V: GrowWords> Payload for Options<T, C, V> {
         }
         let first = rank_in(&source.indexes, start);
         let last = rank_in(&source.indexes, end);
-        self.somes.held();
-        self.somes.fits_range(&source.somes, first, last)?;
-        Ok(())
+        Ok(self.somes.fits_range(&source.somes, first, last)?)
     }
 
     fn push(&mut self, x: Option<T::Item>) -> Result<(), OptionsFault<T::Fault>> {
@@ -108,7 +99,6 @@ impl<T: Payload, C: GrowWords, V: GrowWords> Payload for Options<T, C, V> {
                 Ok(())
             }
             None => {
-                self.somes.held();
                 push_bit(&mut self.indexes, false);
                 Ok(())
             }
@@ -127,12 +117,12 @@ impl<T: Payload, C: GrowWords, V: GrowWords> Payload for Options<T, C, V> {
         }
         let first = rank_in(&source.indexes, start);
         let last = rank_in(&source.indexes, end);
-        self.somes.held();
         append_items(&mut self.somes, &source.somes, first, last);
         append_bits(&mut self.indexes, &source.indexes, start, end);
         Ok(())
     }
 
+    #[tactic(auto, using(columns::proofs::Marked::ones_none))]
     fn clear(&mut self) {
         self.indexes.clear();
         self.somes.clear();

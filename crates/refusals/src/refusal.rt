@@ -17,10 +17,11 @@ pub trait Refusal: Sized {
 
     ghost carries: { Self → ℕ × ℕ };
 
+    // The number that the rules give a refusal: programs print it, no code decides by it.
     fn number(&self) -> u32
         ensures { result ≡ numbered self.now };
 
-    // What the fault carries, 0 where it carries less than two numbers.
+    // What the fault carries, 0 where it carries less than two numbers: for printing beside the number.
     fn carried(&self) -> (u64, u64)
         ensures { result ≡ carries self.now };
 

@@ -1,3 +1,2 @@
-mod Held
 mod Pushes
 mod Ranges

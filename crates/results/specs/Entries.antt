@@ -1,6 +1,5 @@
 -- A list of results: its marks say which entries are Ok, its oks and errs what the entries hold.
-use Rattle.std.specs.Prelude.{◌≡◌, ◌+◌, Bool, true, false, List, [], ◌∷◌, length, is_ok, Some, None, Ok, Err, Option, Result}
-use Rattle.bitlaws.specs.Bits.{ones_among}
+use Rattle.std.specs.Prelude.{Bool, true, false, List, [], ◌∷◌, is_ok, Some, None, Ok, Err, Option, Result}
 use Rattle.columns.specs.Plain.{marks}
 use Rattle.columns.specs.Variants.{picked}
 
@@ -37,12 +36,3 @@ merge (false ∷ bs) os (e ∷ es) = Err e ∷ merge bs os es
 abbrev pub Fits : {A B : Type 0} → (A → Type 0) → (B → Type 0) → Result A B → Type 0
 Fits P Q (Ok x) = P x
 Fits P Q (Err y) = Q y
-
--- a column of results is sound: its marks are, its payloads are, and there is one Ok item for each one and
--- one Err item for each zero
-pub record Sound {A B : Type 0} (Marked Oks Errs : Type 0) (bs : List Bool) (os : List A) (es : List B) : Type 0 where
-  pub marked : Marked
-  pub oks : Oks
-  pub errs : Errs
-  pub ones : length os ≡ ones_among bs
-  pub zeros : ones_among bs + length es ≡ length bs

@@ -4,8 +4,9 @@ use Rattle.std.proofs.Common.{ap, sym, ◌∙◌, subst, arith}
 use Rattle.std.proofs.lemmas.List.{map-append, length-map, take-map, drop-map, get_or-map}
 use Rattle.bitlaws.specs.Bits.{ones_among, rank_of}
 use Rattle.columns.specs.Kinds.{Each, Lawful}
-use Rattle.columns.specs.Plain.{got, part, marks}
-use Rattle.columns.proofs.Lists.{got_found}
+use Rattle.words.specs.Words.{got}
+use Rattle.words.proofs.Got.{got_found}
+use Rattle.columns.specs.Plain.{part, marks}
 use Rattle.columns.proofs.Picked.{picked_append, picked_length, picked_part, picked_at, rank_not}
 use Rattle.results.specs.Entries.{ok_marks, ok_of, err_of, oks, errs, merge, Fits}
 
@@ -80,6 +81,10 @@ module _ {A B : Type 0} (bs : List Bool) (os : List A) (es : List B) (ys : List 
   matched_zeros = omega (arith, matched_ones, ap length p, length-map ys is_ok, ap length q, ap length r, both_counted ys)
 
 module _ {A B : Type 0} (P : A → Type 0) (Q : B → Type 0) where
+  pub fits_alone : ((x : A) → IsProp (P x)) → ((y : B) → IsProp (Q y)) → (r : Result A B) → IsProp (Fits P Q r)
+  fits_alone h k (Ok x) = h x
+  fits_alone h k (Err y) = k y
+
   each_oks : (xs : List (Result A B)) → Each (Fits P Q) xs → Each P (oks xs)
   each_oks [] h = tt
   each_oks (Ok x ∷ xs) h = (h.0, each_oks xs h.1)

@@ -1,16 +1,18 @@
 -- The limit of a column of results, and what it refuses.
-use Rattle.std.specs.Prelude.{◌≡◌, ℕ, ◌<◌, ◌≤◌, Bool, true, false, ◌&&◌, List, ◌++◌, length, is_ok, Ok, Err, Result, ◌≢◌, refl}
+use Rattle.std.specs.Prelude.{◌≡◌, ℕ, ◌+◌, ◌<◌, ◌≤◌, Bool, true, false, ◌&&◌, List, ◌++◌, length, is_ok, Ok, Err, Result, ◌≢◌, refl}
 use Rattle.std.proofs.Common.{ap, sym, ◌∙◌, arith, length-append}
 use Rattle.std.proofs.lemmas.Bool.{and_parts}
-use Rattle.std.specs.Result.{result_map_both}
+use Rattle.std.specs.Result.{result_map_both, OnErr}
 use Rattle.refusals.specs.Faults.{number_of}
 use Rattle.refusals.specs.declared.fault.Fault.TheVariants.{Full}
-use Rattle.columns.specs.Plain.{got}
-use Rattle.columns.proofs.Lists.{got_there}
+use Rattle.bitlaws.specs.Bits.{ones_among}
+use Rattle.words.specs.Words.{got}
+use Rattle.words.proofs.Got.{got_there}
 use Rattle.columns.proofs.Picked.{picked_append}
 use Rattle.results.specs.declared.fault.ResultsFault.{ResultsFault}
 use Rattle.results.specs.declared.fault.ResultsFault.TheVariants.{Own, Oks, Errs}
-use Rattle.results.specs.Entries.{ok_of, err_of, oks, errs}
+use Rattle.results.specs.Entries.{ok_of, err_of, oks, errs, merge}
+use Rattle.results.specs.EntriesLemmas.{merge_length, oks_merge, errs_merge}
 use Rattle.results.specs.Limits.{limited, both, asked}
 
 no_way : {A : Type 0} → ⊥ → A
@@ -21,6 +23,12 @@ abbrev pub numbers : {F G : Type 0} → (F → ℕ) → (G → ℕ) → ResultsF
 numbers m n (Own h) = number_of h
 numbers m n (Oks h) = m h
 numbers m n (Errs h) = n h
+
+-- marks and items within their limits are within that of the column
+pub limited_held : {A B : Type 0} (room : ℕ → Bool) (okay : List A → Bool) (erring : List B → Bool) (bs : List Bool) (os : List A) (es : List B) → length os ≡ ones_among bs → ones_among bs + length es ≡ length bs → room (length bs) ≡ true → okay os ≡ true → erring es ≡ true → limited room okay erring (merge bs os es) ≡ true
+limited_held room okay erring bs os es ones zeros marks oks errs =
+    let a : room (length (merge bs os es)) ≡ true = ap room (merge_length bs os es ones zeros) ∙ marks in
+    rw (a, oks_merge bs os es ones zeros, errs_merge bs os es ones zeros, oks, errs)
 
 module _ {A B F G : Type 0} (room : ℕ → Bool) (lo : List A → Bool) (le : List B → Bool) (ao : List A → List A → Result (Unit {0}) F) (ae : List B → List B → Result (Unit {0}) G) where
   pub limit_begins : ((m n : ℕ) → m ≤ n → room n ≡ true → room m ≡ true) → ((xs ys : List A) → lo (xs ++ ys) ≡ true → lo xs ≡ true) → ((xs ys : List B) → le (xs ++ ys) ≡ true → le xs ≡ true) → (xs ys : List (Result A B)) → limited room lo le (xs ++ ys) ≡ true → limited room lo le xs ≡ true
@@ -74,18 +82,13 @@ err_side x (Ok y) e = let w : x ≡ y = cc in ap Ok (sym w)
 err_side x (Err f) e = let w : ◌≡◌ {A = ℕ} 0 1 = cc in no_way (omega arith)
 
 -- a side that refused
-pub ok_refused : {X F G : Type 0} (P : Type 0) (h : ResultsFault F G) (r : Result X F) → Err h ≡ result_map_both (λ u. u) Oks r → elim r as (λ q. Type 0) [ Ok u ↦ Unit {0} | Err f ↦ P ] → P
+pub ok_refused : {X F G : Type 0} (P : Type 0) (h : ResultsFault F G) (r : Result X F) → Err h ≡ result_map_both (λ u. u) Oks r → OnErr r P → P
 ok_refused P h (Ok y) e p = let w : ◌≡◌ {A = ℕ} 0 1 = cc in no_way (omega arith)
 ok_refused P h (Err f) e p = p
 
-pub err_refused : {X F G : Type 0} (P : Type 0) (h : ResultsFault F G) (r : Result X G) → Err h ≡ result_map_both (λ u. u) Errs r → elim r as (λ q. Type 0) [ Ok u ↦ Unit {0} | Err f ↦ P ] → P
+pub err_refused : {X F G : Type 0} (P : Type 0) (h : ResultsFault F G) (r : Result X G) → Err h ≡ result_map_both (λ u. u) Errs r → OnErr r P → P
 err_refused P h (Ok y) e p = let w : ◌≡◌ {A = ℕ} 0 1 = cc in no_way (omega arith)
 err_refused P h (Err f) e p = p
-
--- an item that is there is not refused
-pub ok_there : {X F G : Type 0} (h : ResultsFault F G) (f : F) (xs : List X) (n : ℕ) (r : Result X F) → r ≡ got f xs n → n < length xs → Err h ≢ result_map_both (λ u. u) Oks r
-ok_there h f xs n (Ok y) e l p = let w : ◌≡◌ {A = ℕ} 0 1 = cc in omega arith
-ok_there h f xs n (Err g) e l p = got_there f g xs n l e
 
 pub err_there : {X F G : Type 0} (h : ResultsFault F G) (f : G) (xs : List X) (n : ℕ) (r : Result X G) → r ≡ got f xs n → n < length xs → Err h ≢ result_map_both (λ u. u) Errs r
 err_there h f xs n (Ok y) e l p = let w : ◌≡◌ {A = ℕ} 0 1 = cc in omega arith

@@ -1,6 +1,6 @@
 -- The limit and the refusals of a column of results, from those of its parts: `room` says how many marks
 -- there may be, the limits and the asks are the payloads'.
-use Rattle.std.specs.Prelude.{ℕ, Bool, cond, ◌&&◌, List, length, Err, Result}
+use Rattle.std.specs.Prelude.{ℕ, Bool, if◌then◌else◌, ◌&&◌, List, length, Err, Result}
 use Rattle.std.specs.Result.{result_map_both}
 use Rattle.refusals.specs.declared.fault.Fault.TheVariants.{Full}
 use Rattle.columns.specs.Variants.{first_of}
@@ -18,4 +18,4 @@ both r q = first_of (result_map_both (λ u. u) Oks r) (result_map_both (λ u. u)
 
 -- making `new` of `old`: refusal 3 of the marks, with the length before; else what the payloads say
 abbrev pub asked : {A B F G : Type 0} → (ℕ → Bool) → (List A → List A → Result (Unit {0}) F) → (List B → List B → Result (Unit {0}) G) → List (Result A B) → List (Result A B) → Result (Unit {0}) (ResultsFault F G)
-asked room okay erring old new = cond (room (length new)) (both (okay (oks old) (oks new)) (erring (errs old) (errs new))) (Err (Own (Full (length old))))
+asked room okay erring old new = if room (length new) then both (okay (oks old) (oks new)) (erring (errs old) (errs new)) else Err (Own (Full (length old)))

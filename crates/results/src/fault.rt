@@ -51,6 +51,15 @@ impl<F: Refusal, G: Refusal> Refusal for ResultsFault<F, G> {
     }
 }
 
+// A fault of the column's own, carried up by `?`.
+impl<F, G> From<Fault> for ResultsFault<F, G> {
+    ghost from_gives = { λ f r. r ≡ Own f };
+
+    fn from(fault: Fault) -> ResultsFault<F, G> {
+        ResultsFault::Own(fault)
+    }
+}
+
 impl<F: fmt::Display, G: fmt::Display> fmt::Display for ResultsFault<F, G> {
     fn fmt<W: fmt::Write>(&self, f: &mut fmt::Formatter<W>) -> fmt::Result {
         match self {
@@ -61,7 +70,8 @@ impl<F: fmt::Display, G: fmt::Display> fmt::Display for ResultsFault<F, G> {
     }
 }
 
-// What the Ok payload answered, its fault with its side, for `?` to carry up.
+// What the Ok payload answered, its fault with its side, for `?` to carry up. By hand, as `of_errs` below:
+// `map_err` with a variant of a generic fault is not covered by the borrow checker, see docs/DECISIONS.md.
 pub fn of_oks<X, F, G>(r: Result<X, F>) -> Result<X, ResultsFault<F, G>>
     ensures { result ≡ result_map_both (λ x. x) Oks r }
 {

@@ -1,9 +1,10 @@
 ghost use Rattle.std.specs.Prelude.{◌≡◌, ℕ, true, List, [], ◌∷◌, ◌++◌, length, Ok, Err};
-ghost use Rattle.bits.specs.Columns.{SoundIn, column_bits, room_in};
-ghost use Rattle.results.specs.Entries.{merge, Sound};
+ghost use Rattle.bits.specs.Columns.{column_bits, room_in};
+ghost use Rattle.results.specs.Entries.{merge};
 ghost use Rattle.results.specs.Limits.{limited, asked};
 ghost use Rattle.bits.proofs.Growing.{fits_less};
-ghost use Rattle.results.specs.Limiting.{limit_begins, limit_asks, limit_third};
+ghost use Rattle.columns.proofs.Marked.{marks_within};
+ghost use Rattle.results.specs.Limiting.{limited_held, limit_begins, limit_asks, limit_third};
 ghost use Rattle.std.proofs.Common.{rules};
 
 use crate::fault::{ResultsFault, of_errs, of_oks};
@@ -11,20 +12,24 @@ use crate::kind::ResultsKind;
 use crate::results::Results;
 use bits::rank_select::RankSelect;
 use columns::column::{Column, Payload};
-use columns::granted::{append_bits, append_items, bits_held, push_bit, rank_in};
+use columns::granted::{append_bits, append_items, push_bit, rank_in};
 use columns::kind::Kind;
 use refusals::fault::Fault;
 use refusals::refusal::Refusal;
-use words::reading::{GrowWords, ReadWords};
+use words::reading::{GrowStore, ReadStore};
 
-impl<S: Payload, T: Payload, C: GrowWords, V: GrowWords> Results<S, T, C, V> {
+impl<S: Payload, T: Payload, C: GrowStore<Item = u64>, V: GrowStore<Item = u64>> Results<
+    S,
+    T,
+    C,
+    V,
+> {
+    #[tactic(auto, using(columns::proofs::Marked::ones_none))]
     // No entries, over two stores and two payloads that are cleared.
     pub fn new(counts: C, values: V, mut oks: S, mut errs: T) -> Self
-        requires { (S.Column.sound oks) × (T.Column.sound errs) }
-        ensures list { merge (column_bits V.ReadWords result.indexes) (S.Column.items result.oks) (T.Column.items result.errs) ≡ [] }
-        ensures sound { Sound (SoundIn C.ReadWords V.ReadWords result.indexes) (S.Column.sound result.oks) (T.Column.sound result.errs) (column_bits V.ReadWords result.indexes) (S.Column.items result.oks) (T.Column.items result.errs) }
-        ensures room { V.GrowWords.room result.indexes.values.values ≡ V.GrowWords.room values }
-        ensures others { C.GrowWords.room result.indexes.counts ≡ C.GrowWords.room counts }
+        ensures list { merge (column_bits V.ReadStore result.indexes) (S.Column.items result.oks) (T.Column.items result.errs) ≡ [] }
+        ensures room { V.GrowStore.room result.indexes.values.values ≡ V.GrowStore.room values }
+        ensures others { C.GrowStore.room result.indexes.counts ≡ C.GrowStore.room counts }
         ensures limit { (S.Payload.limit result.oks ≡ S.Payload.limit oks) × (T.Payload.limit result.errs ≡ T.Payload.limit errs) }
         ensures ask { (S.Payload.ask result.oks ≡ S.Payload.ask oks) × (T.Payload.ask result.errs ≡ T.Payload.ask errs) }
     {
@@ -38,30 +43,29 @@ impl<S: Payload, T: Payload, C: GrowWords, V: GrowWords> Results<S, T, C, V> {
     }
 }
 
-impl<S: Payload, T: Payload, C: GrowWords, V: GrowWords> Payload for Results<S, T, C, V> {
-    ghost limit = { λ s. limited (room_in C.GrowWords.own V.GrowWords.own s.indexes) (S.Payload.limit s.oks) (T.Payload.limit s.errs) };
+impl<S: Payload, T: Payload, C: GrowStore<Item = u64>, V: GrowStore<Item = u64>> Payload
+    for Results<S, T, C, V> {
+    ghost limit = { λ s. limited (room_in C.GrowStore.own V.GrowStore.own s.indexes) (S.Payload.limit s.oks) (T.Payload.limit s.errs) };
 
-    ghost ask = { λ s. asked (room_in C.GrowWords.own V.GrowWords.own s.indexes) (S.Payload.ask s.oks) (T.Payload.ask s.errs) };
+    ghost ask = { λ s. asked (room_in C.GrowStore.own V.GrowStore.own s.indexes) (S.Payload.ask s.oks) (T.Payload.ask s.errs) };
+
+    ghost holds = { λ s.
+        limited_held (room_in C.GrowStore.own V.GrowStore.own s.indexes) (S.Payload.limit s.oks) (T.Payload.limit s.errs) (column_bits V.ReadStore s.indexes) (S.Column.items s.oks) (T.Column.items s.errs) s.ones s.zeros
+        (marks_within s.indexes C.GrowStore.own V.GrowStore.own (C.GrowStore.within s.indexes.counts) (V.GrowStore.within s.indexes.values.values)) (S.Payload.holds s.oks) (T.Payload.holds s.errs) };
 
     ghost empty = { Prim.search rules };
 
     ghost begins = { λ s xs ys e.
-        limit_begins (room_in C.GrowWords.own V.GrowWords.own s.indexes) (S.Payload.limit s.oks) (T.Payload.limit s.errs) (S.Payload.ask s.oks) (T.Payload.ask s.errs)
-        (λ m n h. fits_less m n (V.GrowWords.room s.indexes.values.values) (C.GrowWords.room s.indexes.counts) h) (S.Payload.begins s.oks) (T.Payload.begins s.errs) xs ys e };
+        limit_begins (room_in C.GrowStore.own V.GrowStore.own s.indexes) (S.Payload.limit s.oks) (T.Payload.limit s.errs) (S.Payload.ask s.oks) (T.Payload.ask s.errs)
+        (λ m n h. fits_less m n (V.GrowStore.room s.indexes.values.values) (C.GrowStore.room s.indexes.counts) h) (S.Payload.begins s.oks) (T.Payload.begins s.errs) xs ys e };
 
     ghost asks = { λ s xs ys.
-        limit_asks (room_in C.GrowWords.own V.GrowWords.own s.indexes) (S.Payload.limit s.oks) (T.Payload.limit s.errs) (S.Payload.ask s.oks) (T.Payload.ask s.errs)
+        limit_asks (room_in C.GrowStore.own V.GrowStore.own s.indexes) (S.Payload.limit s.oks) (T.Payload.limit s.errs) (S.Payload.ask s.oks) (T.Payload.ask s.errs)
         (S.Payload.asks s.oks) (T.Payload.asks s.errs) xs ys };
 
     ghost third = { λ s xs ys f e.
-        limit_third (room_in C.GrowWords.own V.GrowWords.own s.indexes) (S.Payload.limit s.oks) (T.Payload.limit s.errs) (S.Payload.ask s.oks) (T.Payload.ask s.errs)
+        limit_third (room_in C.GrowStore.own V.GrowStore.own s.indexes) (S.Payload.limit s.oks) (T.Payload.limit s.errs) (S.Payload.ask s.oks) (T.Payload.ask s.errs)
         S.Fault.Refusal.numbered T.Fault.Refusal.numbered (S.Payload.third s.oks) (T.Payload.third s.errs) xs ys f e };
-
-    fn held(&self) {
-        bits_held(&self.indexes);
-        self.oks.held();
-        self.errs.held();
-    }
 
     fn fits(&self, x: Result<S::Item, T::Item>) -> Result<(), ResultsFault<S::Fault, T::Fault>> {
         let len = self.indexes.len();
@@ -69,14 +73,8 @@ impl<S: Payload, T: Payload, C: GrowWords, V: GrowWords> Payload for Results<S, 
             return Err(ResultsFault::Own(Fault::Full(len)));
         }
         match x {
-            Ok(v) => {
-                self.errs.held();
-                of_oks(self.oks.fits(v))
-            }
-            Err(w) => {
-                self.oks.held();
-                of_errs(self.errs.fits(w))
-            }
+            Ok(v) => of_oks(self.oks.fits(v)),
+            Err(w) => of_errs(self.errs.fits(w)),
         }
     }
 
@@ -98,8 +96,6 @@ impl<S: Payload, T: Payload, C: GrowWords, V: GrowWords> Payload for Results<S, 
         }
         let first = rank_in(&source.indexes, start);
         let last = rank_in(&source.indexes, end);
-        self.oks.held();
-        self.errs.held();
         of_oks(self.oks.fits_range(&source.oks, first, last))?;
         of_errs(
             self.errs
@@ -117,13 +113,11 @@ impl<S: Payload, T: Payload, C: GrowWords, V: GrowWords> Payload for Results<S, 
         }
         match x {
             Ok(v) => {
-                self.errs.held();
                 of_oks(self.oks.push(v))?;
                 push_bit(&mut self.indexes, true);
                 Ok(())
             }
             Err(w) => {
-                self.oks.held();
                 of_errs(self.errs.push(w))?;
                 push_bit(&mut self.indexes, false);
                 Ok(())
@@ -143,14 +137,13 @@ impl<S: Payload, T: Payload, C: GrowWords, V: GrowWords> Payload for Results<S, 
         }
         let first = rank_in(&source.indexes, start);
         let last = rank_in(&source.indexes, end);
-        self.oks.held();
-        self.errs.held();
         append_items(&mut self.oks, &source.oks, first, last);
         append_items(&mut self.errs, &source.errs, start - first, end - last);
         append_bits(&mut self.indexes, &source.indexes, start, end);
         Ok(())
     }
 
+    #[tactic(auto, using(columns::proofs::Marked::ones_none))]
     fn clear(&mut self) {
         self.indexes.clear();
         self.oks.clear();

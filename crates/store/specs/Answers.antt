@@ -1,5 +1,5 @@
 -- What the calls of a store answer, over the list of its words.
-use Rattle.std.specs.Prelude.{ℕ, ◌+◌, ◌-◌, ◌*◌, ◌/◌, ◌%◌, cond, List, [], ◌∷◌, length, take, drop, Some, None, Ok, Err, Option, Result, ◌==◌, nat_lt, slice_index}
+use Rattle.std.specs.Prelude.{ℕ, ◌+◌, ◌-◌, ◌*◌, ◌/◌, ◌%◌, not, ◌||◌, if◌then◌else◌, List, [], ◌∷◌, length, take, drop, Some, None, Ok, Err, Option, Result, ◌==◌, nat_lt, slice_index}
 use Rattle.refusals.specs.declared.fault.Fault.{Fault}
 use Rattle.refusals.specs.declared.fault.Fault.TheVariants.{Extent, First, Table, Slices, Beyond, Before, Ragged}
 use Rattle.store.specs.Layout.{up}
@@ -15,23 +15,23 @@ most_slices = 4095
 abbrev pub ends_fault : ℕ → ℕ → ℕ → List ℕ → Option Fault
 ends_fault bytes i start [] = None
 ends_fault bytes i start (e ∷ es) =
-    cond (nat_lt bytes e) (Some (Beyond i e)) (cond (nat_lt e start) (Some (Before i e)) (ends_fault bytes (i + 1) (8 * up e) es))
+    if nat_lt bytes e then Some (Beyond i e)
+    else if nat_lt e start then Some (Before i e)
+    else ends_fault bytes (i + 1) (8 * up e) es
 
 -- refusals 8 to 12, where the first word is first
 abbrev pub table_fault : List ℕ → ℕ → ℕ → Option Fault
 table_fault ws first expected =
-    cond (nat_lt first 8) (Some (First first))
-    (cond (first % 8 == 0)
-    (cond (nat_lt (length ws) (first / 8)) (Some (Table (first / 8)))
-    (cond (first / 8 - 1 == expected)
-    (ends_fault (8 * length ws) 0 first (take (first / 8 - 1) (drop 1 ws)))
-    (Some (Slices expected (first / 8 - 1)))))
-    (Some (First first)))
+    if nat_lt first 8 || not (first % 8 == 0) then Some (First first)
+    else if nat_lt (length ws) (first / 8) then Some (Table (first / 8))
+    else if not (first / 8 - 1 == expected) then Some (Slices expected (first / 8 - 1))
+    else ends_fault (8 * length ws) 0 first (take (first / 8 - 1) (drop 1 ws))
 
 -- refusals 7 to 12
 abbrev pub store_fault : List ℕ → ℕ → Option Fault
 store_fault ws expected =
-    cond (length ws == 0) (Some Extent) (cond (nat_lt longest (length ws)) (Some Extent) (table_fault ws (slice_index ws 0) expected))
+    if length ws == 0 || nat_lt longest (length ws) then Some Extent
+    else table_fault ws (slice_index ws 0) expected
 
 abbrev pub answered : Option Fault → Result (Unit {0}) Fault
 answered None = Ok tt
@@ -48,7 +48,7 @@ bytes_of ws k = slice_index ws (k + 1) - 8 * up (slice_index ws k)
 abbrev pub ragged_fault : List ℕ → ℕ → List ℕ → Option Fault
 ragged_fault ws i [] = None
 ragged_fault ws i (z ∷ zs) =
-    cond (z == 0) (Some (Ragged i)) (cond (bytes_of ws i % z == 0) (ragged_fault ws (i + 1) zs) (Some (Ragged i)))
+    if z == 0 || not (bytes_of ws i % z == 0) then Some (Ragged i) else ragged_fault ws (i + 1) zs
 
 abbrev pub first_of : Option Fault → Option Fault → Option Fault
 first_of None g = g
@@ -56,7 +56,8 @@ first_of (Some f) g = Some f
 
 abbrev pub validate_fault : List ℕ → List ℕ → Option Fault
 validate_fault ws sizes =
-    cond (nat_lt most_slices (length sizes)) (Some (Slices 4096 0)) (first_of (store_fault ws (length sizes)) (ragged_fault ws 0 sizes))
+    if nat_lt most_slices (length sizes) then Some (Slices 4096 0)
+    else first_of (store_fault ws (length sizes)) (ragged_fault ws 0 sizes)
 
 abbrev pub validate_answer : List ℕ → List ℕ → Result (Unit {0}) Fault
 validate_answer ws sizes = answered (validate_fault ws sizes)
@@ -67,6 +68,7 @@ slices_in ws = slice_index ws 0 / 8 - 1
 
 -- the words of slice k and its tail bytes
 abbrev pub slice_of : List ℕ → ℕ → List ℕ × ℕ
-slice_of ws k = cond (nat_lt k (slices_in ws))
+slice_of ws k =
+    if nat_lt k (slices_in ws) then
     (take (up (slice_index ws (k + 1)) - up (slice_index ws k)) (drop (up (slice_index ws k)) ws), slice_index ws (k + 1) % 8)
-    ([], 0)
+    else ([], 0)

@@ -5,16 +5,13 @@ ghost use Rattle.store.specs.Worked.{two_words};
 
 use crate::store::RawStore;
 use refusals::fault::Fault;
-use words::reading::ReadWords;
+use words::reading::ReadStore;
 
 // What check answers, without the store.
 fn told(words: &[u64], expected: usize) -> Result<(), Fault>
     ensures { result ≡ check_answer words.now expected }
 {
-    match RawStore::new(words).check(expected) {
-        Ok(_) => Ok(()),
-        Err(f) => Err(f),
-    }
+    RawStore::new(words).check(expected).map(|_| ())
 }
 
 // Four short stores that are refused, and one of four slices that is not.
@@ -44,7 +41,7 @@ fn two_words(k: usize) -> (Result<u64, Fault>, Result<u64, Fault>, u8)
     match RawStore::new(&[40, 40, 40, 56, 72, 5, 3, 7, 9]).check(4) {
         Ok(checked) => {
             let (part, tail) = checked.slice(k);
-            (part.word(0), part.word(1), tail)
+            (part.item(0), part.item(1), tail)
         }
         Err(_) => unreachable(),
     }

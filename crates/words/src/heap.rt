@@ -1,8 +1,8 @@
-ghost use Rattle.std.specs.Prelude.{◌≡◌, ℕ, min, [], length, IfOk};
-ghost use Rattle.std.specs.Vec.{vec_capacity, vec_len};
-ghost use Rattle.words.specs.Words.{most, heap_room, heap_list};
+ghost use Rattle.std.specs.Prelude.{◌≡◌, ℕ, ◌≤◌, min, [], length, IfOk};
+ghost use Rattle.std.specs.Vec.{vec_capacity};
+ghost use Rattle.words.specs.Words.{most};
 
-use crate::reading::{GrowWords, MOST, ReadWords};
+use crate::reading::{GrowStore, MOST, ReadStore};
 use refusals::fault::Fault;
 use std::alloc::{AllocError, Global};
 
@@ -11,41 +11,35 @@ use std::alloc::{AllocError, Global};
 pub struct HeapWords {
     words: Vec<u64>,
     limit: usize,
+    ghost within: { length words.items ≤ limit },
+    ghost reserved: { limit ≤ vec_capacity words },
+    ghost small: { limit ≤ most },
 }
 
 impl HeapWords {
     // No words, and room for `limit`, cut to the most there may be.
     pub fn new(heap: Global, limit: usize) -> Result<Self, AllocError>
-        ensures list { IfOk result (λ h. heap_list h.words.items h.limit ≡ []) }
-        ensures room { IfOk result (λ h. heap_room (vec_capacity h.words) h.limit ≡ min limit most) }
+        ensures list { IfOk result (λ h. h.words.items ≡ []) }
+        ensures room { IfOk result (λ h. h.limit ≡ min limit most) }
     {
         let limit = limit.min(MOST);
         let words = Vec::with_capacity(heap, limit)?;
         Ok(HeapWords { words, limit })
     }
-
-    fn most(&self) -> usize
-        ensures { result ≡ min self.now.limit most }
-    {
-        self.limit.min(MOST)
-    }
-
-    fn at(&self) -> usize
-        ensures { result ≡ min (vec_len self.now.words) (min self.now.limit most) }
-    {
-        self.words.len().min(self.most())
-    }
 }
 
-impl ReadWords for HeapWords {
-    ghost words = { λ h. heap_list h.words.items h.limit };
+impl ReadStore for HeapWords {
+    type Item = u64;
+
+    ghost list = { λ h. h.words.items };
 
     fn len(&self) -> usize {
-        self.at()
+        self.words.len()
     }
 
-    fn word(&self, i: usize) -> Result<u64, Fault> {
-        if i < self.at() {
+    #[tactic(auto, using(crate::proofs::Got::got_inside, crate::proofs::Got::got_outside))]
+    fn item(&self, i: usize) -> Result<u64, Fault> {
+        if i < self.words.len() {
             Ok(self.words[i])
         } else {
             Err(Fault::Outside(i))
@@ -53,16 +47,20 @@ impl ReadWords for HeapWords {
     }
 }
 
-impl GrowWords for HeapWords {
-    ghost room = { λ h. heap_room (vec_capacity h.words) h.limit };
+impl GrowStore for HeapWords {
+    ghost room = { λ h. h.limit };
+
+    ghost within = { λ h. h.within };
+
+    ghost small = { λ h. h.small };
 
     fn capacity(&self) -> usize {
-        self.words.capacity().min(self.most())
+        self.limit
     }
 
     fn put(&mut self, w: u64) -> Result<(), Fault> {
-        let at = self.at();
-        if at >= self.capacity() {
+        let at = self.words.len();
+        if at >= self.limit {
             return Err(Fault::Full(at));
         }
         self.words.push_reserved(w);

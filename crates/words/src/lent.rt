@@ -1,69 +1,68 @@
-ghost use Rattle.std.specs.Prelude.{◌≡◌, ℕ, min, length};
-ghost use Rattle.words.specs.Words.{buffer_room, buffer_list};
+ghost use Rattle.std.specs.Prelude.{◌≡◌, ℕ, ◌≤◌, length, take};
+ghost use Rattle.words.specs.Words.{most, buffer_room, buffer_list};
+ghost use Rattle.std.proofs.Common.{arith, length-take};
 
-use crate::reading::{GrowWords, MOST, ReadWords};
+use crate::reading::{GrowStore, MOST, ReadStore};
 use refusals::fault::Fault;
 
-// A buffer handed in. Its length, cut to the most there may be, is the capacity; the first `used`
-// words, cut to the capacity, are the list. They are cut in code, at each call.
+// A buffer handed in, of words, of bytes or of whatever a column holds: a column without memory of its own
+// asks for the length beside it. The buffer's length, cut to the most there may be, is the capacity; its
+// first `used` items are the list.
 #[derive(Drop)]
-pub struct Lent<'a> {
-    words: &'a mut [u64],
+pub struct Lent<'a, T> {
+    items: &'a mut [T],
     used: usize,
+    ghost within: { used ≤ buffer_room (length items.now) },
 }
 
-impl<'a> Lent<'a> {
-    // The buffer with its first `used` words in use.
-    pub fn new(words: &'a mut [u64], used: usize) -> Self
-        ensures list { buffer_list result.words.now result.used ≡ buffer_list words.old used }
-        ensures room { buffer_room (length result.words.now) ≡ buffer_room (length words.old) }
-        ensures same { result.words.now ≡ words.old }
+impl<'a, T: Copy> Lent<'a, T> {
+    // The buffer with its first `used` items in use, or as many as it has room for.
+    pub fn new(items: &'a mut [T], used: usize) -> Self
+        ensures list { take result.used result.items.now ≡ buffer_list items.old used }
+        ensures room { buffer_room (length result.items.now) ≡ buffer_room (length items.old) }
+        ensures same { result.items.now ≡ items.old }
     {
-        Lent { words, used }
-    }
-
-    fn room(&self) -> usize
-        ensures { result ≡ buffer_room (length self.now.words.now) }
-    {
-        self.words.len().min(MOST)
-    }
-
-    fn at(&self) -> usize
-        ensures { result ≡ min self.now.used (buffer_room (length self.now.words.now)) }
-    {
-        self.used.min(self.room())
+        let used = used.min(items.len().min(MOST));
+        Lent { items, used }
     }
 }
 
-impl<'a> ReadWords for Lent<'a> {
-    ghost words = { λ b. buffer_list b.words.now b.used };
+impl<'a, T: Copy> ReadStore for Lent<'a, T> {
+    type Item = T;
+
+    ghost list = { λ b. take b.used b.items.now };
 
     fn len(&self) -> usize {
-        self.at()
+        self.used
     }
 
-    fn word(&self, i: usize) -> Result<u64, Fault> {
-        if i < self.at() {
-            Ok(self.words[i])
+    #[tactic(auto, using(crate::proofs::Got::got_front, crate::proofs::Got::got_behind))]
+    fn item(&self, i: usize) -> Result<T, Fault> {
+        if i < self.used {
+            Ok(self.items[i])
         } else {
             Err(Fault::Outside(i))
         }
     }
 }
 
-impl<'a> GrowWords for Lent<'a> {
-    ghost room = { λ b. buffer_room (length b.words.now) };
+impl<'a, T: Copy> GrowStore for Lent<'a, T> {
+    ghost room = { λ b. buffer_room (length b.items.now) };
+
+    ghost within = { λ b. omega (arith, length-take b.used b.items.now, b.within) };
+
+    ghost small = { λ b. omega arith };
 
     fn capacity(&self) -> usize {
-        self.room()
+        self.items.len().min(MOST)
     }
 
-    fn put(&mut self, w: u64) -> Result<(), Fault> {
-        let at = self.at();
-        if at >= self.room() {
+    fn put(&mut self, x: T) -> Result<(), Fault> {
+        let at = self.used;
+        if at >= self.capacity() {
             return Err(Fault::Full(at));
         }
-        self.words[at] = w;
+        self.items[at] = x;
         self.used = at + 1;
         Ok(())
     }

@@ -1,6 +1,6 @@
 ghost use Rattle.std.specs.Prelude.{◌≡◌};
 
-use crate::reading::ReadWords;
+use crate::reading::ReadStore;
 use refusals::fault::Fault;
 
 // A read-only part of a store: it only reads.
@@ -18,14 +18,17 @@ impl<'a> Part<'a> {
     }
 }
 
-impl<'a> ReadWords for Part<'a> {
-    ghost words = { λ p. p.words.now };
+impl<'a> ReadStore for Part<'a> {
+    type Item = u64;
+
+    ghost list = { λ p. p.words.now };
 
     fn len(&self) -> usize {
         self.words.len()
     }
 
-    fn word(&self, i: usize) -> Result<u64, Fault> {
+    #[tactic(auto, using(crate::proofs::Got::got_inside, crate::proofs::Got::got_outside))]
+    fn item(&self, i: usize) -> Result<u64, Fault> {
         if i < self.words.len() {
             Ok(self.words[i])
         } else {

@@ -1,62 +1,81 @@
-ghost use Rattle.std.specs.Prelude.{◌≡◌, ℕ, ◌+◌, ◌<◌, ◌≤◌, List, [], ◌∷◌, ◌++◌, length, Ok, Err, slice_index};
-ghost use Rattle.words.specs.Words.{most, word_answer, put_answer, put_list};
+ghost use Rattle.std.specs.Prelude.{◌≡◌, ℕ, ◌+◌, ◌<◌, ◌≤◌, List, [], ◌∷◌, ◌++◌, length, Ok, slice_index, OnErr};
+ghost use Rattle.words.specs.Words.{most, item_answer, put_answer, put_list};
 
 use refusals::fault::Fault;
 
-// The most words that a growing store may have.
+// The most items that a growing store may have.
 pub const MOST: usize = 67_108_863;
 
-// A reading word store: it means a list of words, and reading alters nothing.
-pub trait ReadWords {
-    ghost words: { Self → List ℕ };
+// What a column with a ghost field holds, though it owns no memory of its own: it takes no room. The checker
+// covers such a type in a type argument beside a lent buffer only where it owns memory, as a column over
+// tables that stands in a column with lent bytes.
+pub type Owned = [Box<u8>; 0];
+
+// A reading store: it means a list of items, and reading alters nothing.
+pub trait ReadStore {
+    type Item: Copy;
+
+    ghost list: { Self → List Self.Item };
 
     fn len(&self) -> usize
-        ensures { result ≡ length (words self.now) };
+        ensures { result ≡ length (list self.now) };
 
-    // Word `i`, refused with 1 outside.
-    fn word(&self, i: usize) -> Result<u64, Fault>
-        ensures { result ≡ word_answer (words self.now) i };
+    // Item `i`, refused with 1 outside.
+    fn item(&self, i: usize) -> Result<Self::Item, Fault>
+        ensures { result ≡ item_answer (list self.now) i };
 }
 
-// A growing word store: words are put at the end, up to a capacity that no call alters.
-pub trait GrowWords: ReadWords {
+// A growing store: items are put at the end, up to a capacity that no call alters.
+pub trait GrowStore: ReadStore {
     ghost room: { Self → ℕ };
 
     fn capacity(&self) -> usize
-        ensures value { result ≡ room self.now }
-        ensures within { length (Self.ReadWords.words self.now) ≤ result }
-        ensures small { result ≤ most };
+        ensures { result ≡ room self.now };
 
-    // Adds a word at the end, refused with 3 where the store is full.
-    fn put(&mut self, w: u64) -> Result<(), Fault>
-        ensures answer { result ≡ put_answer (Self.ReadWords.words self.old) (room self.old) }
-        ensures list { Self.ReadWords.words self.new ≡ put_list (Self.ReadWords.words self.old) (room self.old) w }
+    // Adds an item at the end, refused with 3 where the store is full.
+    fn put(&mut self, x: Self::Item) -> Result<(), Fault>
+        ensures answer { result ≡ put_answer (Self.ReadStore.list self.old) (room self.old) }
+        ensures list { Self.ReadStore.list self.new ≡ put_list (Self.ReadStore.list self.old) (room self.old) x }
         ensures room { room self.new ≡ room self.old }
-        ensures same { elim result [ Ok _ ↦ Unit {0} | Err _ ↦ self.new ≡ self.old ] };
+        ensures same { OnErr result (self.new ≡ self.old) };
 
     fn clear(&mut self)
-        ensures list { Self.ReadWords.words self.new ≡ [] }
+        ensures list { Self.ReadStore.list self.new ≡ [] }
         ensures room { room self.new ≡ room self.old };
+
+    ghost within: { (s : Self) → length (Self.ReadStore.list s) ≤ room s };
+
+    ghost small: { (s : Self) → room s ≤ most };
 }
 
-// Word `i` of a store that has one: no refusal to carry out of an inner loop.
-pub fn word_of<S: ReadWords>(s: &S, i: usize) -> u64
-    requires { i < length (S.ReadWords.words s.now) }
-    ensures { result ≡ slice_index (S.ReadWords.words s.now) i }
+// Item `i`, which is there: no refusal to carry out of an inner loop.
+#[tactic(auto, using(crate::proofs::Got::got_there))]
+pub fn item_of<S: ReadStore>(s: &S, i: usize) -> S::Item
+    requires { i < length (S.ReadStore.list s.now) }
+    ensures { Ok result ≡ item_answer (S.ReadStore.list s.now) i }
 {
-    match s.word(i) {
-        Ok(w) => w,
+    match s.item(i) {
+        Ok(x) => x,
         Err(_) => unreachable(),
     }
 }
 
-// Puts `w` into a store that has room for it.
-pub fn put_in<S: GrowWords>(s: &mut S, w: u64)
-    requires { length (S.ReadWords.words s.old) < S.GrowWords.room s.old }
-    ensures list { S.ReadWords.words s.new ≡ S.ReadWords.words s.old ++ (w ∷ []) }
-    ensures room { S.GrowWords.room s.new ≡ S.GrowWords.room s.old }
+// Word `i` of a store of words that has one.
+#[tactic(auto, using(crate::proofs::Got::got_at))]
+pub fn word_of<S: ReadStore<Item = u64>>(s: &S, i: usize) -> u64
+    requires { i < length (S.ReadStore.list s.now) }
+    ensures { result ≡ slice_index (S.ReadStore.list s.now) i }
 {
-    match s.put(w) {
+    item_of(s, i)
+}
+
+// Puts `x` into a store that has room for it.
+pub fn put_in<S: GrowStore>(s: &mut S, x: S::Item)
+    requires { length (S.ReadStore.list s.old) < S.GrowStore.room s.old }
+    ensures list { S.ReadStore.list s.new ≡ S.ReadStore.list s.old ++ (x ∷ []) }
+    ensures room { S.GrowStore.room s.new ≡ S.GrowStore.room s.old }
+{
+    match s.put(x) {
         Ok(()) => {}
         Err(_) => unreachable(),
     }

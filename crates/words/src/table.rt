@@ -1,47 +1,45 @@
-ghost use Rattle.std.specs.Prelude.{◌≡◌, ℕ, min, [], length};
-ghost use Rattle.words.specs.Words.{table_list};
+ghost use Rattle.std.specs.Prelude.{◌≡◌, ℕ, ◌≤◌, [], length, take};
+ghost use Rattle.words.specs.Words.{most};
+ghost use Rattle.std.proofs.Common.{arith, length-take, rules};
 
-use crate::reading::{GrowWords, ReadWords};
+use crate::reading::{GrowStore, ReadStore};
 use refusals::fault::Fault;
 
 // How many words a table holds.
 const PLACES: usize = 64;
 
-// A table of 64 words held by value, of which the first `used`, cut to 64, are in use.
+// A table of 64 words held by value and copied as one, which a vector is not; the first `used` are in use.
 #[derive(Clone, Copy)]
 pub struct Table64 {
     words: [u64; 64],
     used: usize,
+    ghost within: { used ≤ 64 },
 }
 
 impl Table64 {
     // A table with no word in use.
     pub fn new() -> Self
-        ensures list { table_list result.words result.used ≡ [] }
+        ensures list { take result.used result.words ≡ [] }
     {
         Table64 {
             words: [0; 64],
             used: 0,
         }
     }
-
-    fn at(&self) -> usize
-        ensures value { result ≡ min self.now.used 64 }
-        ensures places { length self.now.words ≡ 64 }
-    {
-        self.used.min(self.words.len())
-    }
 }
 
-impl ReadWords for Table64 {
-    ghost words = { λ t. table_list t.words t.used };
+impl ReadStore for Table64 {
+    type Item = u64;
+
+    ghost list = { λ t. take t.used t.words };
 
     fn len(&self) -> usize {
-        self.at()
+        self.used
     }
 
-    fn word(&self, i: usize) -> Result<u64, Fault> {
-        if i < self.at() {
+    #[tactic(auto, using(crate::proofs::Got::got_front, crate::proofs::Got::got_behind))]
+    fn item(&self, i: usize) -> Result<u64, Fault> {
+        if i < self.used {
             Ok(self.words[i])
         } else {
             Err(Fault::Outside(i))
@@ -49,15 +47,19 @@ impl ReadWords for Table64 {
     }
 }
 
-impl GrowWords for Table64 {
+impl GrowStore for Table64 {
     ghost room = { λ _. 64 };
+
+    ghost within = { λ t. omega (arith, length-take t.used t.words, t.within) };
+
+    ghost small = { Prim.search rules };
 
     fn capacity(&self) -> usize {
         PLACES
     }
 
     fn put(&mut self, w: u64) -> Result<(), Fault> {
-        let at = self.at();
+        let at = self.used;
         if at >= PLACES {
             return Err(Fault::Full(at));
         }

@@ -4,7 +4,8 @@ use Rattle.std.proofs.lemmas.List.{length-replicate, take-replicate, replicate_m
 use Rattle.std.proofs.lemmas.Nat.{pow_pos}
 use Rattle.std.proofs.lemmas.Bool.{le-leb, lt-ltb, le-ltb, cases_lt}
 use Rattle.refusals.specs.declared.fault.Fault.TheVariants.{Outside}
-use Rattle.words.specs.Words.{word_answer}
+use Rattle.words.specs.Words.{item_answer}
+use Rattle.words.proofs.Got.{got_inside, got_outside}
 use Rattle.bitlaws.specs.Bits.{most_bits, low_bits, word_bits, bits_of, ones_among, select_of, Words64, Held, Counted}
 use Rattle.bits.specs.Columns.{fits, push_list, group_list}
 use Rattle.cursor.specs.Moves.{Spot, next_one, step, meets, told, left}
@@ -65,14 +66,14 @@ module _ (ws : List ℕ) (t k : ℕ) (h : Held ws t k) (e : bits_of ws t k ≡ b
   group_bits = same_count ws (4611686018427387904 ∷ []) t 1 k 1 h grouped_held e
 
 -- the first count of n ones, where there is one
-pub first_word : (cs : List ℕ) (n : ℕ) → Counted cs (replicate n true) → word_answer cs 0 ≡ cond (ltb 0 (n / 1024)) (Ok 1024) (Err (Outside 0))
+pub first_word : (cs : List ℕ) (n : ℕ) → Counted cs (replicate n true) → item_answer cs 0 ≡ cond (ltb 0 (n / 1024)) (Ok 1024) (Err (Outside 0))
 first_word cs n h = ⊎_elim
     (λ (some : 0 < n / 1024).
     let long : 0 < length cs = omega (arith, counts_long cs n h) in
-    simp (lt-ltb 0 (length cs) long, lt-ltb 0 (n / 1024) some, counts_first cs n h some))
+    got_inside 0 (Outside 0) cs 0 long ∙ simp (lt-ltb 0 (n / 1024) some, counts_first cs n h some))
     (λ (none : n / 1024 ≤ 0).
     let short : length cs ≤ 0 = omega (arith, counts_long cs n h) in
-    simp (le-ltb 0 (length cs) short, le-ltb 0 (n / 1024) none))
+    got_outside (Outside 0) cs 0 short ∙ simp (le-ltb 0 (n / 1024) none))
     (cases_lt 0 (n / 1024))
 
 -- 130 bits with ones at 63, 64 and 129, as three groups

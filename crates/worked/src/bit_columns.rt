@@ -1,12 +1,12 @@
 ghost use Rattle.std.specs.Prelude.{◌≡◌, ◌+◌, ◌/◌, ◌≤◌, true, List, [], ◌∷◌, replicate, if◌then◌else◌, Some, None, Ok, Err, nat_lt};
 ghost use Rattle.refusals.specs.declared.fault.Fault.TheVariants.{Outside};
-ghost use Rattle.bits.specs.Columns.{SoundIn, column_bits};
-ghost use Rattle.words.specs.contracts.table.Table64ReadWords.TheImpl.{ghosts as tabled};
+ghost use Rattle.bits.specs.Columns.{column_bits};
+ghost use Rattle.words.specs.contracts.table.Table64ReadStore.TheImpl.{ghosts as tabled};
 
 use bits::rank_select::RankSelect;
 use cursor::cursor::Cursor;
 use refusals::fault::Fault;
-use words::reading::ReadWords;
+use words::reading::ReadStore;
 use words::table::Table64;
 
 // A column over two tables. Its promises pin what a push leaves, so no answer is looked at here.
@@ -52,11 +52,9 @@ pub fn of_far_rank() -> Option<usize>
 
 // Pushes `n` ones, for which two tables have room.
 fn push_ones(column: &mut Column, n: usize)
-    requires sound { SoundIn tabled tabled column.old }
     requires empty { column_bits tabled column.old ≡ [] }
     requires few { n ≤ 4096 }
-    ensures sound { SoundIn tabled tabled column.new }
-    ensures list { column_bits tabled column.new ≡ replicate n true }
+    ensures { column_bits tabled column.new ≡ replicate n true }
 {
     for _ in 0..n {
         let _ = column.push(true);
@@ -71,7 +69,7 @@ pub fn counts_of_ones(n: usize) -> (usize, Result<u64, Fault>)
     let mut column = RankSelect::new(Table64::new(), Table64::new());
     push_ones(&mut column, n);
     let counts = column.counts();
-    (counts.len(), counts.word(0))
+    (counts.len(), counts.item(0))
 }
 
 // The first word, and the tail, of 62 zeros and then the group 5 of 3 bits.
@@ -83,7 +81,7 @@ pub fn of_group() -> (Result<u64, Fault>, u64, usize)
     let _ = column.push_bits(5, 3);
     let values = column.values();
     let tail = values.tail();
-    (values.words().word(0), tail.word, tail.bits)
+    (values.words().item(0), tail.word, tail.bits)
 }
 
 // next_one, step and next_one again over 130 bits with ones at 63, 64 and 129.

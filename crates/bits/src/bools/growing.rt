@@ -1,65 +1,55 @@
-ghost use Rattle.std.specs.Prelude.{◌≡◌, ℕ, ◌+◌, ◌-◌, ◌^◌, ◌<◌, ◌≤◌, true, List, [], ◌∷◌, ◌++◌, length, Ok, Err};
+ghost use Rattle.std.specs.Prelude.{◌≡◌, ℕ, ◌+◌, ◌-◌, ◌^◌, ◌<◌, ◌≤◌, true, List, [], ◌∷◌, ◌++◌, length, Ok, Err, OnErr};
 ghost use Rattle.bitlaws.specs.Bits.{low_bits};
-ghost use Rattle.bits.specs.Columns.{HeldIn, bits_in, fits_words, push_answer, push_list, lawful_group, group_answer, group_list, range_of, append_answer, append_list};
+ghost use Rattle.bits.specs.Columns.{bits_in, fits_words, push_answer, push_list, lawful_group, group_answer, group_list, range_of, append_answer, append_list};
 
 use crate::bools::Bools;
 use crate::tail::{Tail, WORD};
 use refusals::fault::Fault;
-use words::reading::{GrowWords, MOST, ReadWords, put_in};
+use words::reading::{GrowStore, MOST, ReadStore, put_in};
 
-impl<V: GrowWords> Bools<V> {
+impl<V: GrowStore<Item = u64>> Bools<V> {
     // No bits, over a store that is cleared.
     pub fn new(mut values: V) -> Self
-        ensures list { bits_in V.ReadWords result ≡ [] }
-        ensures held { HeldIn V.ReadWords result }
-        ensures room { V.GrowWords.room result.values ≡ V.GrowWords.room values }
+        ensures list { bits_in V.ReadStore result ≡ [] }
+        ensures room { V.GrowStore.room result.values ≡ V.GrowStore.room values }
     {
         values.clear();
-        let tail = Tail::empty();
         Bools {
             values,
-            word: tail.word,
-            bits: tail.bits,
+            tail: Tail::empty(),
+            owned: [],
         }
     }
 
     // Whether `n` bits are within the limit.
     pub(crate) fn has_room(&self, n: usize) -> bool
-        ensures { result ≡ fits_words n (V.GrowWords.room self.now.values) }
+        ensures { result ≡ fits_words n (V.GrowStore.room self.now.values) }
     {
         n <= MOST && n / WORD <= self.values.capacity()
     }
 
     // Adds a group of `count` bits, lowest first, for which there is room.
     pub(crate) fn add_bits(&mut self, group: u64, count: usize)
-        requires held { HeldIn V.ReadWords self.old }
         requires group { (group < 2 ^ count) × (count ≤ 64) }
-        requires room { fits_words (length (bits_in V.ReadWords self.old) + count) (V.GrowWords.room self.old.values) ≡ true }
-        ensures list { bits_in V.ReadWords self.new ≡ bits_in V.ReadWords self.old ++ low_bits count group }
-        ensures held { HeldIn V.ReadWords self.new }
-        ensures room { V.GrowWords.room self.new.values ≡ V.GrowWords.room self.old.values }
+        requires room { fits_words (length (bits_in V.ReadStore self.old) + count) (V.GrowStore.room self.old.values) ≡ true }
+        ensures list { bits_in V.ReadStore self.new ≡ bits_in V.ReadStore self.old ++ low_bits count group }
+        ensures room { V.GrowStore.room self.new.values ≡ V.GrowStore.room self.old.values }
     {
-        let tail = self.tail();
+        let tail = self.tail;
         if tail.bits + count < WORD {
-            let next = tail.with(group, count);
-            self.word = next.word;
-            self.bits = next.bits;
-            return;
+            self.tail = tail.with(group, count);
+        } else {
+            put_in(&mut self.values, tail.joined(group));
+            self.tail = tail.rest(group, count);
         }
-        put_in(&mut self.values, tail.joined(group));
-        let next = tail.rest(group, count);
-        self.word = next.word;
-        self.bits = next.bits;
     }
 
     // Adds a bit, refused with 3 where the limit would be passed.
     pub fn push(&mut self, bit: bool) -> Result<(), Fault>
-        requires { HeldIn V.ReadWords self.old }
-        ensures answer { result ≡ push_answer (bits_in V.ReadWords self.old) (fits_words (length (bits_in V.ReadWords self.old) + 1) (V.GrowWords.room self.old.values)) }
-        ensures list { bits_in V.ReadWords self.new ≡ push_list (bits_in V.ReadWords self.old) (fits_words (length (bits_in V.ReadWords self.old) + 1) (V.GrowWords.room self.old.values)) (bit ∷ []) }
-        ensures held { HeldIn V.ReadWords self.new }
-        ensures room { V.GrowWords.room self.new.values ≡ V.GrowWords.room self.old.values }
-        ensures same { elim result [ Ok _ ↦ Unit {0} | Err _ ↦ self.new ≡ self.old ] }
+        ensures answer { result ≡ push_answer (bits_in V.ReadStore self.old) (fits_words (length (bits_in V.ReadStore self.old) + 1) (V.GrowStore.room self.old.values)) }
+        ensures list { bits_in V.ReadStore self.new ≡ push_list (bits_in V.ReadStore self.old) (fits_words (length (bits_in V.ReadStore self.old) + 1) (V.GrowStore.room self.old.values)) (bit ∷ []) }
+        ensures room { V.GrowStore.room self.new.values ≡ V.GrowStore.room self.old.values }
+        ensures same { OnErr result (self.new ≡ self.old) }
     {
         let n = self.len();
         if !self.has_room(n + 1) {
@@ -72,12 +62,10 @@ impl<V: GrowWords> Bools<V> {
     // Adds the `count` lowest bits of a group, lowest first: refused with 4 where the count is above 64 or
     // a bit is set at or above it, then with 3.
     pub fn push_bits(&mut self, group: u64, count: usize) -> Result<(), Fault>
-        requires { HeldIn V.ReadWords self.old }
-        ensures answer { result ≡ group_answer (bits_in V.ReadWords self.old) (fits_words (length (bits_in V.ReadWords self.old) + count) (V.GrowWords.room self.old.values)) group count }
-        ensures list { bits_in V.ReadWords self.new ≡ group_list (bits_in V.ReadWords self.old) (fits_words (length (bits_in V.ReadWords self.old) + count) (V.GrowWords.room self.old.values)) group count }
-        ensures held { HeldIn V.ReadWords self.new }
-        ensures room { V.GrowWords.room self.new.values ≡ V.GrowWords.room self.old.values }
-        ensures same { elim result [ Ok _ ↦ Unit {0} | Err _ ↦ self.new ≡ self.old ] }
+        ensures answer { result ≡ group_answer (bits_in V.ReadStore self.old) (fits_words (length (bits_in V.ReadStore self.old) + count) (V.GrowStore.room self.old.values)) group count }
+        ensures list { bits_in V.ReadStore self.new ≡ group_list (bits_in V.ReadStore self.old) (fits_words (length (bits_in V.ReadStore self.old) + count) (V.GrowStore.room self.old.values)) group count }
+        ensures room { V.GrowStore.room self.new.values ≡ V.GrowStore.room self.old.values }
+        ensures same { OnErr result (self.new ≡ self.old) }
     {
         if !is_group(group, count) {
             return Err(Fault::Group(count));
@@ -90,15 +78,18 @@ impl<V: GrowWords> Bools<V> {
         Ok(())
     }
 
-    // Adds bits `start` to `end - 1` of a source, a word at a time, for which there is room.
-    pub(crate) fn add_range<S: ReadWords>(&mut self, source: &Bools<S>, start: usize, end: usize)
-        requires held { HeldIn V.ReadWords self.old }
-        requires source { HeldIn S.ReadWords source.now }
-        requires within { end ≤ length (bits_in S.ReadWords source.now) }
-        requires room { fits_words (length (bits_in V.ReadWords self.old) + (end - start)) (V.GrowWords.room self.old.values) ≡ true }
-        ensures list { bits_in V.ReadWords self.new ≡ bits_in V.ReadWords self.old ++ range_of (bits_in S.ReadWords source.now) start end }
-        ensures held { HeldIn V.ReadWords self.new }
-        ensures room { V.GrowWords.room self.new.values ≡ V.GrowWords.room self.old.values }
+    // Adds bits `start` to `end - 1` of a source, a word at a time, for which there is room. A loop by hand,
+    // since the library's ranges have no `step_by`.
+    pub(crate) fn add_range<S: ReadStore<Item = u64>>(
+        &mut self,
+        source: &Bools<S>,
+        start: usize,
+        end: usize,
+    )
+        requires within { end ≤ length (bits_in S.ReadStore source.now) }
+        requires room { fits_words (length (bits_in V.ReadStore self.old) + (end - start)) (V.GrowStore.room self.old.values) ≡ true }
+        ensures list { bits_in V.ReadStore self.new ≡ bits_in V.ReadStore self.old ++ range_of (bits_in S.ReadStore source.now) start end }
+        ensures room { V.GrowStore.room self.new.values ≡ V.GrowStore.room self.old.values }
     {
         let mut pos = start;
         while pos < end {
@@ -110,18 +101,16 @@ impl<V: GrowWords> Bools<V> {
 
     // Adds bits `start` to `end - 1` of a source: refused with 2 where the end lies past the source, even
     // for an empty range, then with 3.
-    pub fn append<S: ReadWords>(
+    pub fn append<S: ReadStore<Item = u64>>(
         &mut self,
         source: &Bools<S>,
         start: usize,
         end: usize,
     ) -> Result<(), Fault>
-        requires { HeldIn V.ReadWords self.old × HeldIn S.ReadWords source.now }
-        ensures answer { result ≡ append_answer (bits_in V.ReadWords self.old) (fits_words (length (bits_in V.ReadWords self.old) + (end - start)) (V.GrowWords.room self.old.values)) (bits_in S.ReadWords source.now) end }
-        ensures list { bits_in V.ReadWords self.new ≡ append_list (bits_in V.ReadWords self.old) (fits_words (length (bits_in V.ReadWords self.old) + (end - start)) (V.GrowWords.room self.old.values)) (bits_in S.ReadWords source.now) start end }
-        ensures held { HeldIn V.ReadWords self.new }
-        ensures room { V.GrowWords.room self.new.values ≡ V.GrowWords.room self.old.values }
-        ensures same { elim result [ Ok _ ↦ Unit {0} | Err _ ↦ self.new ≡ self.old ] }
+        ensures answer { result ≡ append_answer (bits_in V.ReadStore self.old) (fits_words (length (bits_in V.ReadStore self.old) + (end - start)) (V.GrowStore.room self.old.values)) (bits_in S.ReadStore source.now) end }
+        ensures list { bits_in V.ReadStore self.new ≡ append_list (bits_in V.ReadStore self.old) (fits_words (length (bits_in V.ReadStore self.old) + (end - start)) (V.GrowStore.room self.old.values)) (bits_in S.ReadStore source.now) start end }
+        ensures room { V.GrowStore.room self.new.values ≡ V.GrowStore.room self.old.values }
+        ensures same { OnErr result (self.new ≡ self.old) }
     {
         if end > source.len() {
             return Err(Fault::Past(end));
@@ -136,14 +125,11 @@ impl<V: GrowWords> Bools<V> {
 
     // Leaves no bits.
     pub fn clear(&mut self)
-        ensures list { bits_in V.ReadWords self.new ≡ [] }
-        ensures held { HeldIn V.ReadWords self.new }
-        ensures room { V.GrowWords.room self.new.values ≡ V.GrowWords.room self.old.values }
+        ensures list { bits_in V.ReadStore self.new ≡ [] }
+        ensures room { V.GrowStore.room self.new.values ≡ V.GrowStore.room self.old.values }
     {
         self.values.clear();
-        let tail = Tail::empty();
-        self.word = tail.word;
-        self.bits = tail.bits;
+        self.tail = Tail::empty();
     }
 }
 

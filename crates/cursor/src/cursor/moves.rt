@@ -1,7 +1,7 @@
-ghost use Rattle.std.specs.Prelude.{◌≡◌, ℕ, ◌+◌, ◌-◌, ◌*◌, ◌<◌, ◌≤◌, length, None, Ok, Err, ◌≢◌, slice_index_or};
+ghost use Rattle.std.specs.Prelude.{◌≡◌, ℕ, ◌+◌, ◌-◌, ◌*◌, ◌<◌, ◌≤◌, length, None, IfOk, OnErr, ◌≢◌, slice_index_or};
 ghost use Rattle.std.specs.Int.Count.{count_trailing_zeros};
 ghost use Rattle.bitlaws.specs.Bits.{first_from};
-ghost use Rattle.bits.specs.Columns.{SoundIn, column_bits};
+ghost use Rattle.bits.specs.Columns.{column_bits};
 ghost use Rattle.cursor.specs.Hint.{above};
 ghost use Rattle.cursor.specs.Moves.{spot, next_one, step, to_pos, to_rank, behind_one, meets, ahead, told, left};
 
@@ -9,14 +9,15 @@ use crate::cursor::Cursor;
 use bits::rank_select::RankSelect;
 use bits::tail::WORD;
 use refusals::fault::Fault;
-use words::reading::ReadWords;
+use words::reading::ReadStore;
 
 impl Cursor {
     // A cursor at place 0 of a column.
-    pub fn new<C: ReadWords, V: ReadWords>(column: &RankSelect<C, V>) -> Self
-        requires { SoundIn C.ReadWords V.ReadWords column.now }
+    pub fn new<C: ReadStore<Item = u64>, V: ReadStore<Item = u64>>(
+        column: &RankSelect<C, V>,
+    ) -> Self
         ensures at { spot result ≡ (0, 0) }
-        ensures length { result.length ≡ length (column_bits V.ReadWords column.now) }
+        ensures length { result.length ≡ length (column_bits V.ReadStore column.now) }
     {
         Cursor {
             place: 0,
@@ -50,20 +51,16 @@ impl Cursor {
     }
 
     // The next one at or after the place, or none; the place is then behind it. For walking over all ones.
-    pub fn next_one<C: ReadWords, V: ReadWords>(
+    pub fn next_one<C: ReadStore<Item = u64>, V: ReadStore<Item = u64>>(
         &mut self,
         column: &RankSelect<C, V>,
     ) -> Result<Option<usize>, Fault>
-        requires { SoundIn C.ReadWords V.ReadWords column.now }
-        ensures answer { result ≡ told (meets (column_bits V.ReadWords column.now) self.old.length) (next_one (column_bits V.ReadWords column.now) (spot self.old)).0 }
-        ensures moved { spot self.new ≡ left (meets (column_bits V.ReadWords column.now) self.old.length) (next_one (column_bits V.ReadWords column.now) (spot self.old)).1 (spot self.old) }
+        ensures answer { result ≡ told (meets (column_bits V.ReadStore column.now) self.old.length) (next_one (column_bits V.ReadStore column.now) (spot self.old)).0 }
+        ensures moved { spot self.new ≡ left (meets (column_bits V.ReadStore column.now) self.old.length) (next_one (column_bits V.ReadStore column.now) (spot self.old)).1 (spot self.old) }
         ensures length { self.new.length ≡ self.old.length }
-        ensures same { elim result [ Ok _ ↦ Unit {0} | Err _ ↦ self.new ≡ self.old ] }
+        ensures same { OnErr result (self.new ≡ self.old) }
     {
-        let n = column.len();
-        if n != self.length {
-            return Err(Fault::Length(n));
-        }
+        let n = self.meets(column)?;
         let word = word_in(column, self.block);
         let rest = self.left_of(word);
         if rest != 0 {
@@ -80,20 +77,16 @@ impl Cursor {
 
     // The bit at the place, which is stepped over and counted, or none at the end. For walking over all
     // bits.
-    pub fn step<C: ReadWords, V: ReadWords>(
+    pub fn step<C: ReadStore<Item = u64>, V: ReadStore<Item = u64>>(
         &mut self,
         column: &RankSelect<C, V>,
     ) -> Result<Option<bool>, Fault>
-        requires { SoundIn C.ReadWords V.ReadWords column.now }
-        ensures answer { result ≡ told (meets (column_bits V.ReadWords column.now) self.old.length) (step (column_bits V.ReadWords column.now) (spot self.old)).0 }
-        ensures moved { spot self.new ≡ left (meets (column_bits V.ReadWords column.now) self.old.length) (step (column_bits V.ReadWords column.now) (spot self.old)).1 (spot self.old) }
+        ensures answer { result ≡ told (meets (column_bits V.ReadStore column.now) self.old.length) (step (column_bits V.ReadStore column.now) (spot self.old)).0 }
+        ensures moved { spot self.new ≡ left (meets (column_bits V.ReadStore column.now) self.old.length) (step (column_bits V.ReadStore column.now) (spot self.old)).1 (spot self.old) }
         ensures length { self.new.length ≡ self.old.length }
-        ensures same { elim result [ Ok _ ↦ Unit {0} | Err _ ↦ self.new ≡ self.old ] }
+        ensures same { OnErr result (self.new ≡ self.old) }
     {
-        let n = column.len();
-        if n != self.length {
-            return Err(Fault::Length(n));
-        }
+        self.meets(column)?;
         match column.get(self.place) {
             Ok(bit) => {
                 *self = self.at(self.place + 1, self.count + bit as u64);
@@ -104,21 +97,17 @@ impl Cursor {
     }
 
     // Goes to a place, and counts the ones before it; false, and at the end, where there is no such place.
-    pub fn seek_to_pos<C: ReadWords, V: ReadWords>(
+    pub fn seek_to_pos<C: ReadStore<Item = u64>, V: ReadStore<Item = u64>>(
         &mut self,
         column: &RankSelect<C, V>,
         target: usize,
     ) -> Result<bool, Fault>
-        requires { SoundIn C.ReadWords V.ReadWords column.now }
-        ensures answer { result ≡ told (ahead (column_bits V.ReadWords column.now) self.old.length target self.old.place) (to_pos (column_bits V.ReadWords column.now) target (spot self.old)).0 }
-        ensures moved { spot self.new ≡ left (ahead (column_bits V.ReadWords column.now) self.old.length target self.old.place) (to_pos (column_bits V.ReadWords column.now) target (spot self.old)).1 (spot self.old) }
+        ensures answer { result ≡ told (ahead (column_bits V.ReadStore column.now) self.old.length target self.old.place) (to_pos (column_bits V.ReadStore column.now) target (spot self.old)).0 }
+        ensures moved { spot self.new ≡ left (ahead (column_bits V.ReadStore column.now) self.old.length target self.old.place) (to_pos (column_bits V.ReadStore column.now) target (spot self.old)).1 (spot self.old) }
         ensures length { self.new.length ≡ self.old.length }
-        ensures same { elim result [ Ok _ ↦ Unit {0} | Err _ ↦ self.new ≡ self.old ] }
+        ensures same { OnErr result (self.new ≡ self.old) }
     {
-        let n = column.len();
-        if n != self.length {
-            return Err(Fault::Length(n));
-        }
+        let n = self.meets(column)?;
         if target < self.place {
             return Err(Fault::Behind(target as u64));
         }
@@ -137,21 +126,17 @@ impl Cursor {
 
     // Goes behind the one that `target` ones stand before, which it answers; none, and at the end, where
     // there is no such one.
-    pub fn seek_to_rank<C: ReadWords, V: ReadWords>(
+    pub fn seek_to_rank<C: ReadStore<Item = u64>, V: ReadStore<Item = u64>>(
         &mut self,
         column: &RankSelect<C, V>,
         target: u64,
     ) -> Result<Option<usize>, Fault>
-        requires { SoundIn C.ReadWords V.ReadWords column.now }
-        ensures answer { result ≡ told (ahead (column_bits V.ReadWords column.now) self.old.length target self.old.count) (to_rank (column_bits V.ReadWords column.now) target (spot self.old)).0 }
-        ensures moved { spot self.new ≡ left (ahead (column_bits V.ReadWords column.now) self.old.length target self.old.count) (to_rank (column_bits V.ReadWords column.now) target (spot self.old)).1 (spot self.old) }
+        ensures answer { result ≡ told (ahead (column_bits V.ReadStore column.now) self.old.length target self.old.count) (to_rank (column_bits V.ReadStore column.now) target (spot self.old)).0 }
+        ensures moved { spot self.new ≡ left (ahead (column_bits V.ReadStore column.now) self.old.length target self.old.count) (to_rank (column_bits V.ReadStore column.now) target (spot self.old)).1 (spot self.old) }
         ensures length { self.new.length ≡ self.old.length }
-        ensures same { elim result [ Ok _ ↦ Unit {0} | Err _ ↦ self.new ≡ self.old ] }
+        ensures same { OnErr result (self.new ≡ self.old) }
     {
-        let n = column.len();
-        if n != self.length {
-            return Err(Fault::Length(n));
-        }
+        let n = self.meets(column)?;
         if target < self.count {
             return Err(Fault::Behind(target));
         }
@@ -164,6 +149,22 @@ impl Cursor {
                 *self = self.at_end(column);
                 Ok(None)
             }
+        }
+    }
+
+    // The column's length, which is the cursor's: refused with 5 where it is another.
+    fn meets<C: ReadStore<Item = u64>, V: ReadStore<Item = u64>>(
+        &self,
+        column: &RankSelect<C, V>,
+    ) -> Result<usize, Fault>
+        ensures answer { result ≡ told (meets (column_bits V.ReadStore column.now) self.now.length) (length (column_bits V.ReadStore column.now)) }
+        ensures met { IfOk result (λ n. (n ≡ length (column_bits V.ReadStore column.now)) × (n ≡ self.now.length)) }
+    {
+        let n = column.len();
+        if n == self.length {
+            Ok(n)
+        } else {
+            Err(Fault::Length(n))
         }
     }
 
@@ -213,10 +214,12 @@ impl Cursor {
     }
 
     // The cursor at the end, with the ones of the whole words: what a seek past the last one leaves.
-    fn at_end<C: ReadWords, V: ReadWords>(&self, column: &RankSelect<C, V>) -> Self
-        requires sound { SoundIn C.ReadWords V.ReadWords column.now }
-        requires length { length (column_bits V.ReadWords column.now) ≡ self.now.length }
-        ensures at { spot result ≡ behind_one (column_bits V.ReadWords column.now) 0 None }
+    fn at_end<C: ReadStore<Item = u64>, V: ReadStore<Item = u64>>(
+        &self,
+        column: &RankSelect<C, V>,
+    ) -> Self
+        requires length { length (column_bits V.ReadStore column.now) ≡ self.now.length }
+        ensures at { spot result ≡ behind_one (column_bits V.ReadStore column.now) 0 None }
         ensures length { result.length ≡ self.now.length }
     {
         let n = column.len();
@@ -228,10 +231,12 @@ impl Cursor {
 }
 
 // The word of a block that the column has.
-fn word_in<C: ReadWords, V: ReadWords>(column: &RankSelect<C, V>, block: usize) -> u64
-    requires sound { SoundIn C.ReadWords V.ReadWords column.now }
-    requires within { block ≤ length (V.ReadWords.words column.now.values.values) }
-    ensures { result ≡ slice_index_or (V.ReadWords.words column.now.values.values) block column.now.values.word }
+fn word_in<C: ReadStore<Item = u64>, V: ReadStore<Item = u64>>(
+    column: &RankSelect<C, V>,
+    block: usize,
+) -> u64
+    requires within { block ≤ length (V.ReadStore.list column.now.values.values) }
+    ensures { result ≡ slice_index_or (V.ReadStore.list column.now.values.values) block column.now.values.tail.word }
 {
     match column.word_at(block) {
         Ok(word) => word,
@@ -240,10 +245,12 @@ fn word_in<C: ReadWords, V: ReadWords>(column: &RankSelect<C, V>, block: usize) 
 }
 
 // The first one in a block or behind it.
-fn one_from<C: ReadWords, V: ReadWords>(column: &RankSelect<C, V>, block: usize) -> Option<usize>
-    requires sound { SoundIn C.ReadWords V.ReadWords column.now }
-    requires near { block ≤ length (V.ReadWords.words column.now.values.values) + 1 }
-    ensures { result ≡ first_from (column_bits V.ReadWords column.now) (64 * block) }
+fn one_from<C: ReadStore<Item = u64>, V: ReadStore<Item = u64>>(
+    column: &RankSelect<C, V>,
+    block: usize,
+) -> Option<usize>
+    requires near { block ≤ length (V.ReadStore.list column.now.values.values) + 1 }
+    ensures { result ≡ first_from (column_bits V.ReadStore column.now) (64 * block) }
 {
     match column.first_from(WORD * block) {
         Ok(found) => found,

@@ -1,5 +1,4 @@
 use Rattle.std.proofs.Common.{sym, arith}
-use lib.Count.{ones-le}
 use Rattle.bitlaws.specs.Bits.{low_bits}
 use Rattle.bitlaws.proofs.InWord.{ones_word}
 use Rattle.bitlaws.proofs.Selects.{select_some, select_none}
@@ -7,9 +6,6 @@ use Rattle.bits.specs.declared.in_word.Sought.{Sought}
 use Rattle.bits.specs.Halving.{Moved}
 use Rattle.bits.proofs.Halves.{then, placed}
 use Rattle.bits.proofs.in_word.select_in_word.Goals as goal
-
-pub overflow_cast-word : goal.overflow_cast-word
-overflow_cast-word c = omega (arith, ones-le 64 c.args.word c.ranges.word.fits)
 
 pub returns-then-k-word : goal.returns-then-k-word
 returns-then-k-word c =

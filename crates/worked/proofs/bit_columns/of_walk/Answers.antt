@@ -1,5 +1,5 @@
 use Rattle.std.proofs.Common.{◌≡◌, Bool, true, List, length, Some, Ok, ap, ◌∙◌}
-use Rattle.words.specs.contracts.table.Table64ReadWords.TheImpl.{ghosts as tabled}
+use Rattle.words.specs.contracts.table.Table64ReadStore.TheImpl.{ghosts as tabled}
 use Rattle.bitlaws.specs.Bits.{low_bits}
 use Rattle.bits.specs.Columns.{column_bits}
 use Rattle.cursor.specs.Moves.{spot}

@@ -1,7 +1,7 @@
 use Rattle.std.proofs.Common.{◌≡◌, true, replicate}
-use Rattle.words.specs.contracts.table.Table64ReadWords.TheImpl.{ghosts as tabled}
-use Rattle.bits.specs.Columns.{SoundIn, column_bits}
+use Rattle.words.specs.contracts.table.Table64ReadStore.TheImpl.{ghosts as tabled}
+use Rattle.bits.specs.Columns.{column_bits}
 use Rattle.worked.proofs.bit_columns.push_ones.Given as goal
 
 abbrev pub invariant-loop : goal.invariant-loop
-invariant-loop l = SoundIn tabled tabled l.column × (column_bits tabled l.column ≡ replicate l.counter true)
+invariant-loop l = column_bits tabled l.column ≡ replicate l.counter true

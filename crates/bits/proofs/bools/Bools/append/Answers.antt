@@ -9,10 +9,10 @@ overflow_add-n g c =
     omega (
       arith,
       c.len-n.ensures,
-      length_bits (g.V.ReadWords.words s.values) s.word s.bits,
-      c.requires.0.small,
+      length_bits (g.V.ReadStore.list s.values) s.tail.word s.tail.bits,
+      c.args.self.now.held.small,
       c.len.ensures,
-      length_bits (g.S.ReadWords.words o.values) o.word o.bits,
-      c.requires.1.small,
+      length_bits (g.S.ReadStore.list o.values) o.tail.word o.tail.bits,
+      c.args.source.now.held.small,
       c.saturating_sub.ensures,
     )

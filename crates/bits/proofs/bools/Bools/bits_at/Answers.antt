@@ -1,4 +1,4 @@
-use Rattle.std.proofs.Common.{◌≡◌, ℕ, ◌^◌, ◌<◌, sym, ap, ◌∙◌, subst, arith}
+use Rattle.std.proofs.Common.{ℕ, ◌^◌, ◌<◌, sym, ap, ◌∙◌, subst}
 use Rattle.std.proofs.lemmas.Nat.{mod_below, pow_pos}
 use Rattle.bitlaws.specs.Bits.{low_bits}
 use Rattle.bitlaws.proofs.Groups.{low_cut, masked}
@@ -12,12 +12,4 @@ returns-then-count-lt-WORD g c =
     record {
       list = ap (low_bits n) mask ∙ low_cut n w ∙ c.bits_from-bits.ensures;
       clean = subst (λ (x : ℕ). x < 2 ^ n) (sym mask) (mod_below w (2 ^ n) (pow_pos n));
-    }
-
-pub returns-else-count-lt-WORD : goal.returns-else-count-lt-WORD
-returns-else-count-lt-WORD g c =
-    let all : 64 ≡ c.args.count = omega (arith, c.if-count-lt-WORD.false, c.requires.count.1) in
-    record {
-      list = c.bits_from-bits.ensures;
-      clean = subst (λ (x : ℕ). c.bits_from-bits.result < 2 ^ x) all c.bits_from-bits.type_inv;
     }

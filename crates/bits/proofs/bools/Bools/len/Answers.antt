@@ -3,4 +3,4 @@ use Rattle.bitlaws.proofs.Words.{length_bits}
 use Rattle.bits.proofs.bools.Bools.len.Goals as goal
 
 pub returns : goal.returns
-returns g c = let s = c.args.self.now in omega (arith, length_bits (g.V.ReadWords.words s.values) s.word s.bits, c.len.ensures)
+returns g c = let s = c.args.self.now in omega (arith, length_bits (g.V.ReadStore.list s.values) s.tail.word s.tail.bits, c.len.ensures)

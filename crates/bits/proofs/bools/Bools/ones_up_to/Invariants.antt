@@ -4,4 +4,4 @@ use Rattle.bits.specs.Columns.{bits_in}
 use Rattle.bits.proofs.bools.Bools.ones_up_to.Given as goal
 
 abbrev pub invariant-loop-pos : goal.invariant-loop-pos
-invariant-loop-pos g l = l.count ≡ rank_of (bits_in g.V.ReadWords l.self) (64 * l.pos)
+invariant-loop-pos g l = l.count ≡ rank_of (bits_in g.V.ReadStore l.self) (64 * l.pos)

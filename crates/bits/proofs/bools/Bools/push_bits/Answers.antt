@@ -6,4 +6,4 @@ use Rattle.bits.proofs.bools.Bools.push_bits.Goals as goal
 pub overflow_add-n : goal.overflow_add-n
 overflow_add-n g c =
     let s = c.args.self.now in
-    omega (arith, c.len-n.ensures, length_bits (g.V.ReadWords.words s.values) s.word s.bits, c.requires.small, (group_parts c.args.group c.args.count (sym c.if-not-is_group.ensures)).0)
+    omega (arith, c.len-n.ensures, length_bits (g.V.ReadStore.list s.values) s.tail.word s.tail.bits, c.args.self.now.held.small, (group_parts c.args.group c.args.count (sym c.if-not-is_group.ensures)).0)

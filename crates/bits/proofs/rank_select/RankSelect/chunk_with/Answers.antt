@@ -7,6 +7,6 @@ pub loop-lo-init : goal.loop-lo-init
 loop-lo-init g c = (
   omega arith,
   omega (arith, c.len-hi.ensures),
-  omega (arith, rank_none (column_bits g.V.ReadWords c.args.self.now)),
+  omega (arith, rank_none (column_bits g.V.ReadStore c.args.self.now)),
   λ h. absurd (omega (arith, h, c.len-hi.ensures)),
 )

@@ -1,11 +1,6 @@
 use Rattle.std.proofs.Common.{sym, arith}
-use Rattle.bitlaws.proofs.Groups.{rest_none, joined_rest}
+use Rattle.bitlaws.proofs.Groups.{joined_rest}
 use Rattle.bits.proofs.tail.Tail.over.Goals as goal
-
-pub returns-then-self-eq0 : goal.returns-then-self-eq0
-returns-then-self-eq0 c =
-    let s = c.args.self.now in
-    rest_none s.word s.bits c.args.group s.clean c.if-self-eq0.true c.ranges.group.fits
 
 pub returns-else-self-eq0 : goal.returns-else-self-eq0
 returns-else-self-eq0 c =

@@ -3,7 +3,7 @@ use lib.Count.{count_trailing_zeros}
 use Rattle.bitlaws.proofs.Words.{length_bits}
 use Rattle.bits.specs.Columns.{column_bits}
 use Rattle.cursor.specs.Moves.{spot, Spot}
-use Rattle.cursor.proofs.Bounds.{first_bounds}
+use Rattle.cursor.proofs.Bounds.{first_bounds, column_small}
 use Rattle.cursor.proofs.Hints.{some_at, none_at, went}
 use Rattle.cursor.proofs.cursor.Cursor.next_one.Goals as goal
 
@@ -12,35 +12,34 @@ word_in-word-requires g c =
     let s = c.args.self.now in
     let v = c.args.column.now.values in
     record {
-      sound = c.requires;
-      within = omega (arith, s.begun, s.within, c.if-n-self.false, c.len-n.ensures, length_bits (g.V.ReadWords.words v.values) v.word v.bits, c.requires.held.tailed.few);
+      within = omega (arith, s.begun, s.within, c.in_ok-n.ensures.met.1, c.in_ok-n.ensures.met.0, length_bits (g.V.ReadStore.list v.values) v.tail.word v.tail.bits, v.tail.few);
     }
 
 pub behind-requires : goal.behind-requires
 behind-requires g c =
     let s = c.args.self.now in
     let v = c.args.column.now.values in
-    let ws = g.V.ReadWords.words v.values in
-    let bs = column_bits g.V.ReadWords c.args.column.now in
+    let ws = g.V.ReadStore.list v.values in
+    let bs = column_bits g.V.ReadStore c.args.column.now in
     let z = count_trailing_zeros 64 c.left_of-rest.result in
-    let inside : s.place ≤ 64 * length ws + v.bits = omega (arith, s.within, c.if-n-self.false, c.len-n.ensures, length_bits ws v.word v.bits) in
-    let first = some_at ws v.word v.bits s.place s.block c.word_in-word.result c.left_of-rest.result c.requires.held s.begun s.ended inside c.word_in-word.ensures c.left_of-rest.ensures c.word_in-word.type_inv c.if-rest-ne0.true in
+    let inside : s.place ≤ 64 * length ws + v.tail.bits = omega (arith, s.within, c.in_ok-n.ensures.met.1, c.in_ok-n.ensures.met.0, length_bits ws v.tail.word v.tail.bits) in
+    let first = some_at ws v.tail.word v.tail.bits s.place s.block c.word_in-word.result c.left_of-rest.result v.held s.begun s.ended inside c.word_in-word.ensures c.left_of-rest.ensures c.word_in-word.type_inv c.if-rest-ne0.true in
     record {
       rest = c.left_of-rest.ensures;
       some = c.if-rest-ne0.true;
-      within = omega (arith, (first_bounds bs s.place (64 * s.block + z) (sym first)).1, c.if-n-self.false, c.len-n.ensures);
+      within = omega (arith, (first_bounds bs s.place (64 * s.block + z) (sym first)).1, c.in_ok-n.ensures.met.1, c.in_ok-n.ensures.met.0);
     }
 
 pub returns-then-rest-ne0 : goal.returns-then-rest-ne0
 returns-then-rest-ne0 g c =
     let s = c.args.self.now in
     let v = c.args.column.now.values in
-    let ws = g.V.ReadWords.words v.values in
-    let bs = column_bits g.V.ReadWords c.args.column.now in
+    let ws = g.V.ReadStore.list v.values in
+    let bs = column_bits g.V.ReadStore c.args.column.now in
     let z = count_trailing_zeros 64 c.left_of-rest.result in
-    let inside : s.place ≤ 64 * length ws + v.bits = omega (arith, s.within, c.if-n-self.false, c.len-n.ensures, length_bits ws v.word v.bits) in
-    let first = some_at ws v.word v.bits s.place s.block c.word_in-word.result c.left_of-rest.result c.requires.held s.begun s.ended inside c.word_in-word.ensures c.left_of-rest.ensures c.word_in-word.type_inv c.if-rest-ne0.true in
-    let told = went bs (spot s) s.length (sym c.len-n.ensures ∙ c.if-n-self.false) (Some (64 * s.block + z)) first in
+    let inside : s.place ≤ 64 * length ws + v.tail.bits = omega (arith, s.within, c.in_ok-n.ensures.met.1, c.in_ok-n.ensures.met.0, length_bits ws v.tail.word v.tail.bits) in
+    let first = some_at ws v.tail.word v.tail.bits s.place s.block c.word_in-word.result c.left_of-rest.result v.held s.begun s.ended inside c.word_in-word.ensures c.left_of-rest.ensures c.word_in-word.type_inv c.if-rest-ne0.true in
+    let told = went bs (spot s) s.length (sym c.in_ok-n.ensures.met.0 ∙ c.in_ok-n.ensures.met.1) (Some (64 * s.block + z)) first in
     let place : c.behind.result.place ≡ 64 * s.block + z + 1 = ap (λ (x : Spot). x.0) c.behind.ensures.at in
     let back : c.behind.result.place - 1 ≡ 64 * s.block + z = omega (arith, place) in
     record {
@@ -55,39 +54,38 @@ one_from-found-requires g c =
     let s = c.args.self.now in
     let v = c.args.column.now.values in
     record {
-      sound = c.requires;
-      near = omega (arith, s.begun, s.within, c.if-n-self.false, c.len-n.ensures, length_bits (g.V.ReadWords.words v.values) v.word v.bits, c.requires.held.tailed.few);
+      near = omega (arith, s.begun, s.within, c.in_ok-n.ensures.met.1, c.in_ok-n.ensures.met.0, length_bits (g.V.ReadStore.list v.values) v.tail.word v.tail.bits, v.tail.few);
     }
 
 pub overflow_add-q : goal.overflow_add-q
 overflow_add-q g c =
-    let bs = column_bits g.V.ReadWords c.args.column.now in
+    let bs = column_bits g.V.ReadStore c.args.column.now in
     let found = first_bounds bs (64 * (c.args.self.now.block + 1)) c.in-Some.q (sym c.in-Some.is ∙ c.one_from-found.ensures) in
-    omega (arith, found.1, c.len-n.ensures, c.len-n.type_inv)
+    omega (arith, found.1, column_small (g.V.ReadStore.list c.args.column.now.values.values) c.args.column.now.values.tail.word c.args.column.now.values.tail.bits c.args.column.now.values.held)
 
 pub overflow_add-self-in-Some : goal.overflow_add-self-in-Some
 overflow_add-self-in-Some g c =
     let s = c.args.self.now in
-    let bs = column_bits g.V.ReadWords c.args.column.now in
+    let bs = column_bits g.V.ReadStore c.args.column.now in
     let found = first_bounds bs (64 * (s.block + 1)) c.in-Some.q (sym c.in-Some.is ∙ c.one_from-found.ensures) in
-    omega (arith, found.0, found.1, s.counted, s.ended, c.len-n.ensures, c.len-n.type_inv)
+    omega (arith, found.0, found.1, s.counted, s.ended, column_small (g.V.ReadStore.list c.args.column.now.values.values) c.args.column.now.values.tail.word c.args.column.now.values.tail.bits c.args.column.now.values.held)
 
 pub at-requires : goal.at-requires
 at-requires g c =
     let s = c.args.self.now in
-    let bs = column_bits g.V.ReadWords c.args.column.now in
+    let bs = column_bits g.V.ReadStore c.args.column.now in
     let found = first_bounds bs (64 * (s.block + 1)) c.in-Some.q (sym c.in-Some.is ∙ c.one_from-found.ensures) in
-    (omega (arith, found.0, s.counted, s.ended), omega (arith, found.1, c.len-n.ensures, c.if-n-self.false))
+    (omega (arith, found.0, s.counted, s.ended), omega (arith, found.1, c.in_ok-n.ensures.met.0, c.in_ok-n.ensures.met.1))
 
 pub returns-in-Some : goal.returns-in-Some
 returns-in-Some g c =
     let s = c.args.self.now in
     let v = c.args.column.now.values in
-    let ws = g.V.ReadWords.words v.values in
-    let bs = column_bits g.V.ReadWords c.args.column.now in
-    let inside : s.place ≤ 64 * length ws + v.bits = omega (arith, s.within, c.if-n-self.false, c.len-n.ensures, length_bits ws v.word v.bits) in
-    let on = none_at ws v.word v.bits s.place s.block c.word_in-word.result c.left_of-rest.result c.requires.held s.begun s.ended inside c.word_in-word.ensures c.left_of-rest.ensures c.if-rest-ne0.false in
-    let told = went bs (spot s) s.length (sym c.len-n.ensures ∙ c.if-n-self.false) (Some c.in-Some.q) (on ∙ sym c.one_from-found.ensures ∙ c.in-Some.is) in
+    let ws = g.V.ReadStore.list v.values in
+    let bs = column_bits g.V.ReadStore c.args.column.now in
+    let inside : s.place ≤ 64 * length ws + v.tail.bits = omega (arith, s.within, c.in_ok-n.ensures.met.1, c.in_ok-n.ensures.met.0, length_bits ws v.tail.word v.tail.bits) in
+    let on = none_at ws v.tail.word v.tail.bits s.place s.block c.word_in-word.result c.left_of-rest.result v.held s.begun s.ended inside c.word_in-word.ensures c.left_of-rest.ensures c.if-rest-ne0.false in
+    let told = went bs (spot s) s.length (sym c.in_ok-n.ensures.met.0 ∙ c.in_ok-n.ensures.met.1) (Some c.in-Some.q) (on ∙ sym c.one_from-found.ensures ∙ c.in-Some.is) in
     record {
       answer = told.0;
       moved = c.at.ensures.at ∙ told.1;
@@ -99,12 +97,12 @@ pub returns-in-None : goal.returns-in-None
 returns-in-None g c =
     let s = c.args.self.now in
     let v = c.args.column.now.values in
-    let ws = g.V.ReadWords.words v.values in
-    let bs = column_bits g.V.ReadWords c.args.column.now in
-    let inside : s.place ≤ 64 * length ws + v.bits = omega (arith, s.within, c.if-n-self.false, c.len-n.ensures, length_bits ws v.word v.bits) in
-    let on = none_at ws v.word v.bits s.place s.block c.word_in-word.result c.left_of-rest.result c.requires.held s.begun s.ended inside c.word_in-word.ensures c.left_of-rest.ensures c.if-rest-ne0.false in
-    let told = went bs (spot s) s.length (sym c.len-n.ensures ∙ c.if-n-self.false) None (on ∙ sym c.one_from-found.ensures ∙ c.in-None.is) in
-    let word = ap (λ (x : ℕ). 64 * (x / 64)) c.len-n.ensures in
+    let ws = g.V.ReadStore.list v.values in
+    let bs = column_bits g.V.ReadStore c.args.column.now in
+    let inside : s.place ≤ 64 * length ws + v.tail.bits = omega (arith, s.within, c.in_ok-n.ensures.met.1, c.in_ok-n.ensures.met.0, length_bits ws v.tail.word v.tail.bits) in
+    let on = none_at ws v.tail.word v.tail.bits s.place s.block c.word_in-word.result c.left_of-rest.result v.held s.begun s.ended inside c.word_in-word.ensures c.left_of-rest.ensures c.if-rest-ne0.false in
+    let told = went bs (spot s) s.length (sym c.in_ok-n.ensures.met.0 ∙ c.in_ok-n.ensures.met.1) None (on ∙ sym c.one_from-found.ensures ∙ c.in-None.is) in
+    let word = ap (λ (x : ℕ). 64 * (x / 64)) c.in_ok-n.ensures.met.0 in
     record {
       answer = ap Ok c.in-None.is ∙ told.0;
       moved = c.at-in-None.ensures.at ∙ ap (λ (x : ℕ). (x, s.count)) (c.max.ensures ∙ ap (max s.place) word) ∙ told.1;

@@ -6,5 +6,5 @@ use Rattle.cursor.proofs.cursor.moves.one_from.Goals as goal
 
 pub returns-in-Err : goal.returns-in-Err
 returns-in-Err g c =
-    let bs = column_bits g.V.ReadWords c.args.column.now in
+    let bs = column_bits g.V.ReadStore c.args.column.now in
     none_past bs (64 * c.args.block) (refused_past bs (64 * c.args.block) c.in-Err.field-0 c.in-Err.ensures)

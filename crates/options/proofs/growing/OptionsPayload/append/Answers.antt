@@ -15,16 +15,15 @@ pub returns-in_err-fits_range : goal.returns-in_err-fits_range
 returns-in_err-fits_range g c =
     let s = c.args.self.now in
     let t = c.args.source.now in
-    let room = room_in g.C.GrowWords g.V.GrowWords s.indexes in
+    let room = room_in g.C.GrowStore g.V.GrowStore s.indexes in
     let lim = g.T.Payload.limit s.somes in
     let ask = g.T.Payload.ask s.somes in
-    let xs = merge (column_bits g.V.ReadWords s.indexes) (g.T.Column.items s.somes) in
-    let ys = merge (column_bits g.V.ReadWords t.indexes) (g.T.Column.items t.somes) in
+    let xs = merge (column_bits g.V.ReadStore s.indexes) (g.T.Column.items s.somes) in
+    let ys = merge (column_bits g.V.ReadStore t.indexes) (g.T.Column.items t.somes) in
     let told = c.in_err-fits_range.ensures in
     let p = err_from_is_err_and c.from_residual.result c.from_residual.ensures.1 in
     let l = list_told own_past (asked room ask) (limited room lim) xs ys c.args.start c.args.end (limit_asks room lim ask (g.met.T.Payload.asks s.somes) xs) in
     record {
-      sound = c.requires.0;
       answer = p.1 ∙ ap Err p.2 ∙ told;
       list = sym (l ∙ ap (λ r. grown (is_ok r) xs (xs ++ part ys c.args.start c.args.end)) (sym told));
       limit = refl;
@@ -36,73 +35,91 @@ pub rank_in-first-requires : goal.rank_in-first-requires
 rank_in-first-requires g c =
     let s = c.args.self.now in
     let t = c.args.source.now in
-    let k = granted_end (room_in g.C.GrowWords g.V.GrowWords s.indexes) (g.T.Payload.limit s.somes) (g.T.Payload.ask s.somes) g.T.Fault.Refusal.past
-    (column_bits g.V.ReadWords s.indexes) (column_bits g.V.ReadWords t.indexes) (g.T.Column.items s.somes) (g.T.Column.items t.somes)
-    c.requires.0.many c.requires.1.many c.args.start c.args.end c.if-start-end.false c.in_ok-fits_range.ensures in
-    record { sound = c.requires.1.marked; within = omega (arith, k, c.if-start-end.false) }
+    let k = granted_end (room_in g.C.GrowStore g.V.GrowStore s.indexes) (g.T.Payload.limit s.somes) (g.T.Payload.ask s.somes) g.T.Fault.Refusal.past
+    (column_bits g.V.ReadStore s.indexes) (column_bits g.V.ReadStore t.indexes) (g.T.Column.items s.somes) (g.T.Column.items t.somes)
+    s.many t.many c.args.start c.args.end c.if-start-end.false c.in_ok-fits_range.ensures in
+    omega (arith, k, c.if-start-end.false)
 
 pub rank_in-last-requires : goal.rank_in-last-requires
 rank_in-last-requires g c =
     let s = c.args.self.now in
     let t = c.args.source.now in
-    let k = granted_end (room_in g.C.GrowWords g.V.GrowWords s.indexes) (g.T.Payload.limit s.somes) (g.T.Payload.ask s.somes) g.T.Fault.Refusal.past
-    (column_bits g.V.ReadWords s.indexes) (column_bits g.V.ReadWords t.indexes) (g.T.Column.items s.somes) (g.T.Column.items t.somes)
-    c.requires.0.many c.requires.1.many c.args.start c.args.end c.if-start-end.false c.in_ok-fits_range.ensures in
-    record { sound = c.requires.1.marked; within = k }
+    granted_end (room_in g.C.GrowStore g.V.GrowStore s.indexes) (g.T.Payload.limit s.somes) (g.T.Payload.ask s.somes) g.T.Fault.Refusal.past
+    (column_bits g.V.ReadStore s.indexes) (column_bits g.V.ReadStore t.indexes) (g.T.Column.items s.somes) (g.T.Column.items t.somes)
+    s.many t.many c.args.start c.args.end c.if-start-end.false c.in_ok-fits_range.ensures
 
 pub append_items-requires : goal.append_items-requires
 append_items-requires g c =
     let s = c.args.self.now in
     let t = c.args.source.now in
-    let room = room_in g.C.GrowWords g.V.GrowWords s.indexes in
+    let room = room_in g.C.GrowStore g.V.GrowStore s.indexes in
     let lim = g.T.Payload.limit s.somes in
     let ask = g.T.Payload.ask s.somes in
     let past = g.T.Fault.Refusal.past in
-    let bs = column_bits g.V.ReadWords s.indexes in
-    let bt = column_bits g.V.ReadWords t.indexes in
+    let bs = column_bits g.V.ReadStore s.indexes in
+    let bt = column_bits g.V.ReadStore t.indexes in
     let ss = g.T.Column.items s.somes in
     let st = g.T.Column.items t.somes in
     let told = c.in_ok-fits_range.ensures in
     let h = c.if-start-end.false in
-    let k = granted_end room lim ask past bs bt ss st c.requires.0.many c.requires.1.many c.args.start c.args.end h told in
-    let e = granted_items room lim ask past bs bt ss st c.requires.0.many c.requires.1.many c.args.start c.args.end h k (g.met.T.Payload.asks s.somes) c.held.ensures told in
-    record {
-      sound = (c.requires.0.held, c.requires.1.held);
-      granted = ap (λ n. append_answer past ask ss st n c.rank_in-last.result) c.rank_in-first.ensures.value ∙ ap (λ n. append_answer past ask ss st (rank_of bt c.args.start) n) c.rank_in-last.ensures.value ∙ e;
-    }
+    let k = granted_end room lim ask past bs bt ss st s.many t.many c.args.start c.args.end h told in
+    let e = granted_items room lim ask past bs bt ss st s.many t.many c.args.start c.args.end h k (g.met.T.Payload.asks s.somes) (g.met.T.Payload.holds s.somes) told in
+    ap (λ n. append_answer past ask ss st n c.rank_in-last.result) c.rank_in-first.ensures.value ∙ ap (λ n. append_answer past ask ss st (rank_of bt c.args.start) n) c.rank_in-last.ensures.value ∙ e
 
 pub append_bits-requires : goal.append_bits-requires
 append_bits-requires g c =
     let s = c.args.self.now in
     let t = c.args.source.now in
-    let room = room_in g.C.GrowWords g.V.GrowWords s.indexes in
+    let room = room_in g.C.GrowStore g.V.GrowStore s.indexes in
     let lim = g.T.Payload.limit s.somes in
     let ask = g.T.Payload.ask s.somes in
     let past = g.T.Fault.Refusal.past in
-    let bs = column_bits g.V.ReadWords s.indexes in
-    let bt = column_bits g.V.ReadWords t.indexes in
+    let bs = column_bits g.V.ReadStore s.indexes in
+    let bt = column_bits g.V.ReadStore t.indexes in
     let ss = g.T.Column.items s.somes in
     let st = g.T.Column.items t.somes in
     let told = c.in_ok-fits_range.ensures in
     let h = c.if-start-end.false in
-    let k = granted_end room lim ask past bs bt ss st c.requires.0.many c.requires.1.many c.args.start c.args.end h told in
+    let k = granted_end room lim ask past bs bt ss st s.many t.many c.args.start c.args.end h told in
     record {
-      sound = c.requires.0.marked;
-      source = c.requires.1.marked;
       within = k;
-      room = granted_marks room lim ask past bs bt ss st c.requires.0.many c.requires.1.many c.args.start c.args.end h k (g.met.T.Payload.asks s.somes) c.held.ensures told;
+      room = granted_marks room lim ask past bs bt ss st s.many t.many c.args.start c.args.end h k (g.met.T.Payload.asks s.somes) (g.met.T.Payload.holds s.somes) told;
     }
+
+pub invariant_of-self : goal.invariant_of-self
+invariant_of-self g c =
+    let s = c.args.self.now in
+    let t = c.args.source.now in
+    let room = room_in g.C.GrowStore g.V.GrowStore s.indexes in
+    let lim = g.T.Payload.limit s.somes in
+    let ask = g.T.Payload.ask s.somes in
+    let past = g.T.Fault.Refusal.past in
+    let bs = column_bits g.V.ReadStore s.indexes in
+    let bt = column_bits g.V.ReadStore t.indexes in
+    let ss = g.T.Column.items s.somes in
+    let st = g.T.Column.items t.somes in
+    let from = c.args.start in
+    let to = c.args.end in
+    let xs = merge bs ss in
+    let ys = merge bt st in
+    let h = c.if-start-end.false in
+    let items = c.append_items.ensures in
+    let marks = c.append_bits.ensures in
+    let more = items.list ∙ ap (λ n. ss ++ part st n c.rank_in-last.result) c.rank_in-first.ensures.value ∙ ap (λ n. ss ++ part st (rank_of bt from) n) c.rank_in-last.ensures.value in
+    let a = marks.list ∙ sym (marks_range room lim ask past bs bt ss st s.many t.many from to h) in
+    let b = more ∙ sym (somes_range room lim ask past bs bt ss st s.many t.many from to h) in
+    record { many = matched _ _ (xs ++ part ys from to) a b }
 
 pub returns : goal.returns
 returns g c =
     let s = c.args.self.now in
     let t = c.args.source.now in
-    let room = room_in g.C.GrowWords g.V.GrowWords s.indexes in
+    let room = room_in g.C.GrowStore g.V.GrowStore s.indexes in
     let lim = g.T.Payload.limit s.somes in
     let ask = g.T.Payload.ask s.somes in
     let past = g.T.Fault.Refusal.past in
-    let bs = column_bits g.V.ReadWords s.indexes in
-    let bt = column_bits g.V.ReadWords t.indexes in
+    let bs = column_bits g.V.ReadStore s.indexes in
+    let bt = column_bits g.V.ReadStore t.indexes in
     let ss = g.T.Column.items s.somes in
     let st = g.T.Column.items t.somes in
     let from = c.args.start in
@@ -114,11 +131,10 @@ returns g c =
     let items = c.append_items.ensures in
     let marks = c.append_bits.ensures in
     let more = items.list ∙ ap (λ n. ss ++ part st n c.rank_in-last.result) c.rank_in-first.ensures.value ∙ ap (λ n. ss ++ part st (rank_of bt from) n) c.rank_in-last.ensures.value in
-    let a = marks.list ∙ sym (marks_range room lim ask past bs bt ss st c.requires.0.many c.requires.1.many from to h) in
-    let b = more ∙ sym (somes_range room lim ask past bs bt ss st c.requires.0.many c.requires.1.many from to h) in
+    let a = marks.list ∙ sym (marks_range room lim ask past bs bt ss st s.many t.many from to h) in
+    let b = more ∙ sym (somes_range room lim ask past bs bt ss st s.many t.many from to h) in
     let l = list_told own_past (asked room ask) (limited room lim) xs ys from to (limit_asks room lim ask (g.met.T.Payload.asks s.somes) xs) in
     record {
-      sound = record { marked = marks.sound; held = items.sound; many = matched _ _ (xs ++ part ys from to) a b };
       answer = told;
       list = merged _ _ (xs ++ part ys from to) a b ∙ sym (l ∙ ap (λ r. grown (is_ok r) xs (xs ++ part ys from to)) (sym told));
       limit = ap₂ (λ r l. limited r l) marks.room items.limit;

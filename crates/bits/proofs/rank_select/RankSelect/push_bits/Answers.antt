@@ -1,9 +1,0 @@
-use Rattle.std.proofs.Common.{sym, arith}
-use Rattle.bitlaws.proofs.Words.{length_bits}
-use Rattle.bits.proofs.Growing.{group_parts}
-use Rattle.bits.proofs.rank_select.RankSelect.push_bits.Goals as goal
-
-pub overflow_add-n : goal.overflow_add-n
-overflow_add-n g c =
-    let s = c.args.self.now.values in
-    omega (arith, c.len-n.ensures, length_bits (g.V.ReadWords.words s.values) s.word s.bits, c.requires.held.small, (group_parts c.args.group c.args.count (sym c.if-not-is_group.ensures)).0)

@@ -1,4 +1,0 @@
-use Rattle.exported.proofs.visits.fill_rounds.Given as goal
-
-abbrev pub invariant-loop : goal.invariant-loop
-invariant-loop g l = g.C.Column.sound l.column
