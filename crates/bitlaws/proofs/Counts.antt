@@ -18,18 +18,3 @@ lag cs bs ys h = record {
 -- none is missing
 pub caught : (cs : List ℕ) (bs : List Bool) → Lagging cs bs → length bs / 1024 ≤ length cs → Counted cs bs
 caught cs bs h all = record { many = omega (arith, h.most); each = h.each }
-
--- one that is missing is added
-pub catch : (cs : List ℕ) (bs : List Bool) (c : ℕ) → Lagging cs bs → length cs < length bs / 1024 → c ≡ rank_of bs (1024 * (length cs + 1)) → Lagging (cs ++ (c ∷ [])) bs
-catch cs bs c h short is = record {
-  most = omega (arith, length_push cs c);
-  each = λ j l. ⊎_elim
-      (λ (lt : j < length cs). rw (get_or_append_left cs (c ∷ []) 0 j lt) (h.each j lt))
-      (λ (ge : length cs ≤ j).
-      let e : length cs ≡ j = omega (arith, length_push cs c) in
-      rw (get_or_push cs c 0 j e, ← e) is)
-      (cases_lt j (length cs));
-}
-
-pub counted_none : Counted [] []
-counted_none = record { many = refl; each = λ j l. absurd (omega arith) }

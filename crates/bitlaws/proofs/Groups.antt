@@ -85,11 +85,6 @@ joined_is t k a clean le =
 pub joined_whole : (t k a n : ℕ) → t < 2 ^ k → a < 2 ^ n → k + n ≤ 64 → (a * 2 ^ k + t) % 2 ^ 64 ≡ a * 2 ^ k + t
 joined_whole t k a n clean small le = mod-eq_of_lt (lt_of_lt_of_le (joined_lt t k a clean n small) (pow_mono le))
 
--- `a >> (64 - k)`, or 0 where the tail was empty
-pub rest_none : (t k a : ℕ) → t < 2 ^ k → k ≡ 0 → a < 2 ^ 64 → 0 ≡ (a * 2 ^ k + t) / 2 ^ 64
-rest_none t k a clean e fit =
-    sym (joined_rest t k a clean (omega arith) ∙ ap (λ (x : ℕ). a / 2 ^ (64 - x)) e ∙ div-eq_of_lt fit)
-
 -- `w & ((1 << n) - 1)`
 pub masked : (w n : ℕ) → n < 64 → bit_and w ((1 * 2 ^ n) % 2 ^ 64 - 1) ≡ w % 2 ^ n
 masked w n h = rw (one_shl n 64 h) (and_mask w n)

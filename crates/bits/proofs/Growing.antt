@@ -15,10 +15,6 @@ pub bit_group : (b : Bool) → low_bits 1 (bool_byte b) ≡ b ∷ []
 bit_group true = low_one true
 bit_group false = low_one false
 
-pub bit_small : (b : Bool) → bool_byte b < 2
-bit_small true = lit< tt
-bit_small false = lit< tt
-
 pub pushed : (bs : List Bool) (ok : Bool) → ok ≡ true → Ok tt ≡ push_answer bs ok
 pushed bs ok e = simp e
 
@@ -34,20 +30,10 @@ no_bits : bits_of [] 0 0 ≡ []
 unfolding word_bits low_bits
 no_bits = refl
 
-no_words : Words64 []
-no_words i = pow_pos 64
-
 -- what is cleared
 module _ (ws : List ℕ) (t k : ℕ) (we : ws ≡ []) (te : t ≡ 0) (ke : k ≡ 0) where
   pub empty_list : bits_of ws t k ≡ []
   empty_list = ap (λ (x : List ℕ). bits_of x t k) we ∙ ap₂ (λ (x y : ℕ). bits_of [] x y) te ke ∙ no_bits
-
-  pub empty_held : Held ws t k
-  empty_held = record {
-    fit = subst (λ (x : List ℕ). Words64 x) (sym we) no_words;
-    tailed = record { few = omega arith; clean = subst (λ (x : ℕ). x < 2 ^ k) (sym te) (pow_pos k) };
-    small = omega (arith, ap length we);
-  }
 
 -- a group of n bits, the number a, behind the tail
 module _ (ws : List ℕ) (t k a n v : ℕ) (h : Held ws t k) (small : a < 2 ^ n) (limit : fits_words (length (bits_of ws t k) + n) v ≡ true) where
@@ -62,16 +48,6 @@ module _ (ws : List ℕ) (t k a n v : ℕ) (h : Held ws t k) (small : a < 2 ^ n)
   module _ (t' k' : ℕ) (te : t' ≡ a * 2 ^ k + t) (ke : k' ≡ k + n) (room : k + n < 64) where
     pub tail_list : bits_of ws t' k' ≡ bits_of ws t k ++ low_bits n a
     tail_list = ap₂ (λ (x y : ℕ). bits_of ws x y) te ke ∙ bits_group t k a h.tailed.clean ws n
-
-    pub tail_held : Held ws t' k'
-    tail_held = record {
-      fit = h.fit;
-      tailed = record {
-        few = omega arith;
-        clean = subst₂ (λ (x y : ℕ). x < 2 ^ y) (sym te) (sym ke) (joined_lt t k a h.tailed.clean n small);
-      };
-      small = omega (arith, size);
-    }
 
   -- it fills a word, and the rest is the tail
   module _ (ws' : List ℕ) (t' k' : ℕ) (we : ws' ≡ ws ++ ((a * 2 ^ k + t) % 2 ^ 64 ∷ [])) (te : t' ≡ (a * 2 ^ k + t) / 2 ^ 64) (ke : k' ≡ k + n - 64) (full : 64 ≤ k + n) (few : n ≤ 64) where
@@ -112,25 +88,10 @@ group_is a n h = ⊎_elim
     ne_eqb (a / 2 ^ n) 0 (λ e. omega arith) ∙ sym (ap₂ (λ (x y : Bool). x && y) (le-leb n 64 (omega arith)) (le-ltb a (2 ^ n) ge)))
     (cases_lt a (2 ^ n))
 
--- `n == 64`
-pub group_whole : (a n : ℕ) → a < 2 ^ 64 → 64 ≤ n → eqb n 64 ≡ lawful_group a n
-group_whole a n fit h = ⊎_elim
-    (λ (lt : 64 < n). ne_eqb n 64 (λ e. omega arith) ∙ sym (ap (λ (x : Bool). x && ltb a (2 ^ n)) (lt-leb n 64 lt)))
-    (λ (le : n ≤ 64).
-    let e : 64 ≡ n = omega arith in
-    eq-eqb n 64 (sym e) ∙ sym (ap₂ (λ (x y : Bool). x && y) (le-leb n 64 le) (lt-ltb a (2 ^ n) (subst (λ (x : ℕ). a < 2 ^ x) e fit))))
-    (cases_lt 64 n)
-
 pub group_parts : (a n : ℕ) → lawful_group a n ≡ true → (n ≤ 64) × (a < 2 ^ n)
 group_parts a n e =
     let p = and_parts (leb n 64) (ltb a (2 ^ n)) e in
     (leb-true n 64 p.0, ltb-true a (2 ^ n) p.1)
-
--- fewer bits fit too
-pub fits_fewer : (m n v : ℕ) → m ≤ n → fits_words n v ≡ true → fits_words m v ≡ true
-fits_fewer m n v h e =
-    let p = fits_parts n v e in
-    ap₂ (λ (x y : Bool). x && y) (le-leb m most_bits (omega (arith, p.0))) (le-leb (m / 64) v (omega (arith, p.1)))
 
 -- the limit, put together from its parts
 pub fits_made : (n v k : ℕ) → n ≤ most_bits → n / 64 ≤ v → n / 1024 ≤ k → fits n v k ≡ true

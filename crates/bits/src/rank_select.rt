@@ -90,8 +90,8 @@ impl<C: ReadStore<Item = u64>, V: ReadStore<Item = u64>> RankSelect<C, V> {
     }
 
     // The first chunk after which more than `rank` ones stand, by halving over the counts; behind the
-    // last count where there is none. A loop by hand: the library has no `partition_point`, and a store
-    // is no slice.
+    // last count where there is none. A loop by hand: `partition_point` is of slices, and a store is
+    // none.
     fn chunk_with(&self, rank: u64) -> usize
         ensures within { result ≤ length (C.ReadStore.list self.now.counts) }
         ensures below { rank_of (column_bits V.ReadStore self.now) (1024 * result) ≤ rank }

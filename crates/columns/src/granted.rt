@@ -20,10 +20,7 @@ pub fn rank_in<C: ReadStore<Item = u64>, V: ReadStore<Item = u64>>(
     ensures value { result ≡ rank_of (column_bits V.ReadStore bits.now) i }
     ensures below { result ≤ i }
 {
-    match bits.rank(i) {
-        Ok(n) => n,
-        Err(_) => unreachable(),
-    }
+    bits.rank(i).unwrap()
 }
 
 // Adds a bit for which there is room.
@@ -35,10 +32,7 @@ pub fn push_bit<C: GrowStore<Item = u64>, V: GrowStore<Item = u64>>(
     ensures list { column_bits V.ReadStore bits.new ≡ column_bits V.ReadStore bits.old ++ (bit ∷ []) }
     ensures room { room_in C.GrowStore.own V.GrowStore.own bits.new ≡ room_in C.GrowStore.own V.GrowStore.own bits.old }
 {
-    match bits.push(bit) {
-        Ok(()) => {}
-        Err(_) => unreachable(),
-    }
+    bits.push(bit).unwrap()
 }
 
 // Adds bits `start` to `end - 1` of a source, for which there is room.
@@ -53,10 +47,7 @@ pub fn append_bits<C: GrowStore<Item = u64>, V: GrowStore<Item = u64>>(
     ensures list { column_bits V.ReadStore bits.new ≡ column_bits V.ReadStore bits.old ++ part (column_bits V.ReadStore source.now) start end }
     ensures room { room_in C.GrowStore.own V.GrowStore.own bits.new ≡ room_in C.GrowStore.own V.GrowStore.own bits.old }
 {
-    match bits.append(source, start, end) {
-        Ok(()) => {}
-        Err(_) => unreachable(),
-    }
+    bits.append(source, start, end).unwrap()
 }
 
 // Adds a range that `fits_range` has granted.
@@ -66,8 +57,5 @@ pub fn append_items<T: Payload>(column: &mut T, source: &T, start: usize, end: u
     ensures limit { T.Payload.limit column.new ≡ T.Payload.limit column.old }
     ensures ask { T.Payload.ask column.new ≡ T.Payload.ask column.old }
 {
-    match column.append(source, start, end) {
-        Ok(()) => {}
-        Err(_) => unreachable(),
-    }
+    column.append(source, start, end).unwrap()
 }

@@ -31,7 +31,8 @@ pub trait Kind<I> {
     fn slice_count() -> usize
         ensures { result ≡ count_of sizes };
 
-    // The size of an element of slice `k`; 0 past the last, and from 4,096 on.
+    // The size of an element of slice `k`; 0 past the last, and from 4,096 on, as the format says: no size
+    // is 0.
     fn element_size(k: usize) -> usize
         ensures { result ≡ size_of sizes k };
 

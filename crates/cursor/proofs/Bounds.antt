@@ -26,16 +26,6 @@ select_bounds bs r q e =
     let s = select_place bs r q (sym e) in
     (omega (arith, s.rank, rank_under bs q), selected_inside bs r q s)
 
--- a first one is refused only past the end
-pub refused_past : (bs : List Bool) (i : ℕ) (f : Fault) → Err f ≡ first_answer bs i → length bs < i
-refused_past bs i f e = ⊎_elim
-    (λ (lt : length bs < i). lt)
-    (λ (ge : i ≤ length bs). let z : ◌≡◌ {A = ℕ} 0 1 = never (first_from bs i) (e ∙ simp (le-leb i (length bs) ge)) in absurd (omega arith))
-    (cases_lt (length bs) i)
-  where
-    never : (o : Option ℕ) → Err f ≡ Ok o → ◌≡◌ {A = ℕ} 0 1
-    never o e = cc
-
 -- a column is far from the end of its numbers
 pub column_small : (ws : List ℕ) (t k : ℕ) → Held ws t k → length (bits_of ws t k) ≤ most_bits
 column_small ws t k h = omega (arith, length_bits ws t k, h.small)

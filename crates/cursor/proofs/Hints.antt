@@ -1,12 +1,12 @@
 -- The first one of a word at or above bit r, by the word without its r lowest bits.
-use Rattle.std.proofs.Common.{◌≡◌, ℕ, zero, suc, ◌+◌, ◌-◌, ◌*◌, ◌/◌, ◌%◌, ◌^◌, ◌<◌, ◌≤◌, Bool, false, eqb, List, length, get_or, Some, None, Ok, Option, Result, sym, refl, ap, ◌∙◌, subst, ap₂, ⊎_elim, add-zero, add_comm, add-one, arith, pow_pos, pow_mono}
+use Rattle.std.proofs.Common.{◌≡◌, ℕ, zero, suc, ◌+◌, ◌-◌, ◌*◌, ◌/◌, ◌%◌, ◌^◌, ◌<◌, ◌≤◌, Bool, false, eqb, List, length, get_or, Some, None, Ok, Err, Option, Result, sym, refl, ap, ◌∙◌, subst, ap₂, ⊎_elim, add-zero, add_comm, add-one, arith, pow_pos, pow_mono}
 use native.Mathlib.Nat.{mod-one, mod_self, zero-mod}
 use lib.Bits.{bit_and, and_block, and_self, and_mask}
 use lib.Count.{ones, under, count_trailing_zeros}
 use lib.Pow.{high, low, split, mod-mod-pow}
 use Rattle.std.proofs.lemmas.Nat.{mod_below, shr-shr, mod-pow-add, pow_below}
 use Rattle.std.proofs.lemmas.List.{get_or_past, take_all}
-use Rattle.std.proofs.lemmas.Bool.{true≢false, eqb-true, eq-eqb, cases_lt}
+use Rattle.std.proofs.lemmas.Bool.{true≢false, eqb-true, eq-eqb, le-leb, lt-leb, cases_lt}
 use Rattle.bitlaws.specs.Bits.{low_bits, bits_of, ones_among, rank_of, select_of, first_from, Held}
 use Rattle.bitlaws.specs.Laws.{Selected}
 use Rattle.bitlaws.proofs.Words.{length_low, rank_place}
@@ -14,6 +14,9 @@ use Rattle.bitlaws.proofs.Selects.{select_some, select_place, select_none}
 use Rattle.bitlaws.proofs.InWord.{low_bit, low_rank, selected_in}
 use Rattle.bitlaws.proofs.Firsts.{trailing_first, rank_next}
 use Rattle.refusals.specs.declared.fault.Fault.{Fault}
+use Rattle.refusals.specs.declared.fault.Fault.TheVariants.{Outside}
+use Rattle.std.specs.Result.{result_unwrap_or}
+use Rattle.bits.specs.Columns.{first_answer}
 use Rattle.cursor.specs.Hint.{above}
 use Rattle.cursor.specs.Moves.{Spot, next_one, after_one, meets, told, left}
 
@@ -150,8 +153,19 @@ module _ (ws : List ℕ) (t k p b w rest : ℕ) (h : Held ws t k) (begun : 64 * 
   none_at none = ap (first_from (bits_of ws t k)) (sym at_place) ∙ hint_none ws t k b (p - 64 * b) w h block_in (omega arith) (omega arith) is (sym e ∙ none)
 
 -- past the end there is none
-pub none_past : (bs : List Bool) (i : ℕ) → length bs < i → None ≡ first_from bs i
+none_past : (bs : List Bool) (i : ℕ) → length bs < i → None ≡ first_from bs i
 none_past bs i h = sym (select_none bs (rank_of bs i) (omega (arith, ap ones_among (take_all i bs (omega arith)))))
+
+-- a first one that is refused is none
+pub first_or_none : (bs : List Bool) (i : ℕ) (r : Result (Option ℕ) Fault) → r ≡ first_answer bs i → result_unwrap_or r None ≡ first_from bs i
+first_or_none bs i r e = ⊎_elim
+    (λ (lt : length bs < i).
+    let q : r ≡ Err (Outside i) = e ∙ simp (lt-leb i (length bs) lt) in
+    ap (λ (x : Result (Option ℕ) Fault). result_unwrap_or x None) q ∙ none_past bs i lt)
+    (λ (ge : i ≤ length bs).
+    let q : r ≡ Ok (first_from bs i) = e ∙ simp (le-leb i (length bs) ge) in
+    ap (λ (x : Result (Option ℕ) Fault). result_unwrap_or x None) q)
+    (cases_lt (length bs) i)
 
 -- what next_one answers, and where it leads
 module _ (bs : List Bool) (s : Spot) (n : ℕ) (long : length bs ≡ n) where

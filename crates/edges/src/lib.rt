@@ -121,10 +121,7 @@ pub fn stray_walks<C: ReadStore<Item = u64>, V: ReadStore<Item = u64>>(
 
 // The number of the refusal of a store, or 0: the tests tell refusals by number, as the rules do.
 pub fn number_of(answer: Result<CheckedStore<'_>, Fault>) -> u32 {
-    match answer {
-        Ok(_) => 0,
-        Err(fault) => fault.number(),
-    }
+    answer.err().map_or(0, |fault| fault.number())
 }
 
 // How many changes of one word of a good store give that refusal.

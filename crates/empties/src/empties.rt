@@ -76,6 +76,7 @@ impl Payload for Empties {
         Ok(())
     }
 
+    // The questions are those of `Items`: a text for both would be a function of five numbers.
     fn fits_range(&self, source: &Self, start: usize, end: usize) -> Result<(), Fault> {
         if start >= end {
             return Ok(());

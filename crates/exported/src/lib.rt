@@ -74,7 +74,8 @@ pub extern "C" fn rumbykai_push_bits(
     ones(&filled(counts, words, pattern))
 }
 
-// The sum of the ranks at some places, of the bits of a pattern.
+// The sum of the ranks at some places, of the bits of a pattern. What is timed stands in each function as it
+// is: a call through a closure would be timed too.
 #[unsafe(no_mangle)]
 pub extern "C" fn rumbykai_rank(
     counts: &mut [u64],

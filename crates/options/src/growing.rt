@@ -19,8 +19,8 @@ use refusals::refusal::Refusal;
 use words::reading::{GrowStore, ReadStore};
 
 impl<T: Payload, C: GrowStore<Item = u64>, V: GrowStore<Item = u64>> Options<T, C, V> {
-    #[tactic(auto, using(columns::proofs::Marked::ones_none))]
     // No entries, over two stores and a payload that are cleared.
+    #[tactic(auto, using(columns::proofs::Marked::ones_none))]
     pub fn new(counts: C, values: V, mut somes: T) -> Self
         ensures list { merge (column_bits V.ReadStore result.indexes) (T.Column.items result.somes) ≡ [] }
         ensures room { V.GrowStore.room result.indexes.values.values ≡ V.GrowStore.room values }
@@ -92,6 +92,7 @@ impl<T: Payload, C: GrowStore<Item = u64>, V: GrowStore<Item = u64>> Payload for
         if !self.indexes.has_room(n + 1) {
             return Err(OptionsFault::Own(Fault::Full(n)));
         }
+        // an arm ends with its own bit: the checker joins no branches in which `x` is held in part
         match x {
             Some(v) => {
                 self.somes.push(v)?;

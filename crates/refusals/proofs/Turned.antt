@@ -10,7 +10,3 @@ taken d (Err f) = d
 pub was_ok : {A E F : Type 0} (Q : E → Type 0) (r : Result A E) (s : Result A F) (x : A) → MatchResult r (λ y. s ≡ Ok y) Q → is_ok s ≡ is_ok r → s ≡ Ok x → r ≡ Ok x
 was_ok Q (Ok y) s x h v e = ap (λ q. Ok (taken x q)) (sym h ∙ e)
 was_ok Q (Err d) s x h v e = absurd (true≢false (sym (ap is_ok e) ∙ v))
-
-pub was_err : {A E F : Type 0} (P : E → F → Type 0) (r : Result A E) (s : Result A F) (f : F) → MatchResult r (λ y. s ≡ Ok y) (λ e. IsErrAnd s (P e)) → is_ok s ≡ is_ok r → s ≡ Err f → (e : E) × (r ≡ Err e) × P e f
-was_err P (Ok y) s f h v e = absurd (true≢false (sym v ∙ ap is_ok e))
-was_err P (Err d) s f h v e = (d, refl, subst (λ q. IsErrAnd q (P d)) e h)

@@ -24,8 +24,8 @@ impl<S: Payload, T: Payload, C: GrowStore<Item = u64>, V: GrowStore<Item = u64>>
     C,
     V,
 > {
-    #[tactic(auto, using(columns::proofs::Marked::ones_none))]
     // No entries, over two stores and two payloads that are cleared.
+    #[tactic(auto, using(columns::proofs::Marked::ones_none))]
     pub fn new(counts: C, values: V, mut oks: S, mut errs: T) -> Self
         ensures list { merge (column_bits V.ReadStore result.indexes) (S.Column.items result.oks) (T.Column.items result.errs) ≡ [] }
         ensures room { V.GrowStore.room result.indexes.values.values ≡ V.GrowStore.room values }
@@ -78,6 +78,8 @@ impl<S: Payload, T: Payload, C: GrowStore<Item = u64>, V: GrowStore<Item = u64>>
         }
     }
 
+    // The questions of the marks are those of `Options`, and so in `push`: their refusals become the faults
+    // of two types, so a text for both would be longer than the tests.
     fn fits_range(
         &self,
         source: &Self,

@@ -38,13 +38,11 @@ pub fn worked_checks() -> (
 fn two_words(k: usize) -> (Result<u64, Fault>, Result<u64, Fault>, u8)
     ensures { result ≡ two_words k }
 {
-    match RawStore::new(&[40, 40, 40, 56, 72, 5, 3, 7, 9]).check(4) {
-        Ok(checked) => {
-            let (part, tail) = checked.slice(k);
-            (part.item(0), part.item(1), tail)
-        }
-        Err(_) => unreachable(),
-    }
+    let checked = RawStore::new(&[40, 40, 40, 56, 72, 5, 3, 7, 9])
+        .check(4)
+        .unwrap();
+    let (part, tail) = checked.slice(k);
+    (part.item(0), part.item(1), tail)
 }
 
 // What the slices of that store hold: the first two are empty.

@@ -6,7 +6,8 @@ use crate::reading::{GrowStore, MOST, ReadStore};
 use refusals::fault::Fault;
 use std::alloc::{AllocError, Global};
 
-// Words in a `Vec` whose memory is reserved when the store is made: no put ever asks for more.
+// Words in a `Vec` whose memory is reserved when the store is made: no put ever asks for more. The limit
+// stands beside it, since the memory that is reserved may be more.
 #[derive(Drop)]
 pub struct HeapWords {
     words: Vec<u64>,
@@ -39,11 +40,7 @@ impl ReadStore for HeapWords {
 
     #[tactic(auto, using(crate::proofs::Got::got_inside, crate::proofs::Got::got_outside))]
     fn item(&self, i: usize) -> Result<u64, Fault> {
-        if i < self.words.len() {
-            Ok(self.words[i])
-        } else {
-            Err(Fault::Outside(i))
-        }
+        self.words.get(i).copied().ok_or(Fault::Outside(i))
     }
 }
 

@@ -1,4 +1,5 @@
-// Stores of 64-bit words: what a reading and a growing one mean, and the four there are.
+// Stores of items: what a reading and a growing one mean, and four of words, of which the lent one serves
+// bytes as well.
 #![tactic(auto)]
 
 pub mod heap;

@@ -29,10 +29,6 @@ impl<'a> ReadStore for Part<'a> {
 
     #[tactic(auto, using(crate::proofs::Got::got_inside, crate::proofs::Got::got_outside))]
     fn item(&self, i: usize) -> Result<u64, Fault> {
-        if i < self.words.len() {
-            Ok(self.words[i])
-        } else {
-            Err(Fault::Outside(i))
-        }
+        self.words.get(i).copied().ok_or(Fault::Outside(i))
     }
 }

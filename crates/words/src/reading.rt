@@ -6,9 +6,9 @@ use refusals::fault::Fault;
 // The most items that a growing store may have.
 pub const MOST: usize = 67_108_863;
 
-// What a column with a ghost field holds, though it owns no memory of its own: it takes no room. The checker
-// covers such a type in a type argument beside a lent buffer only where it owns memory, as a column over
-// tables that stands in a column with lent bytes.
+// An array of no boxes: it takes no room, and no memory is ever asked for. `Bools` and `Items` hold one,
+// since the checker covers a struct with ghost fields beside a lent buffer, as in a column of columns, only
+// where the struct owns memory by its type.
 pub type Owned = [Box<u8>; 0];
 
 // A reading store: it means a list of items, and reading alters nothing.
@@ -54,10 +54,7 @@ pub fn item_of<S: ReadStore>(s: &S, i: usize) -> S::Item
     requires { i < length (S.ReadStore.list s.now) }
     ensures { Ok result ≡ item_answer (S.ReadStore.list s.now) i }
 {
-    match s.item(i) {
-        Ok(x) => x,
-        Err(_) => unreachable(),
-    }
+    s.item(i).unwrap()
 }
 
 // Word `i` of a store of words that has one.
@@ -75,8 +72,5 @@ pub fn put_in<S: GrowStore>(s: &mut S, x: S::Item)
     ensures list { S.ReadStore.list s.new ≡ S.ReadStore.list s.old ++ (x ∷ []) }
     ensures room { S.GrowStore.room s.new ≡ S.GrowStore.room s.old }
 {
-    match s.put(x) {
-        Ok(()) => {}
-        Err(_) => unreachable(),
-    }
+    s.put(x).unwrap()
 }

@@ -39,11 +39,6 @@ one_more bs n h e =
     ap (λ (x : Bool). push_list bs x (true ∷ [])) (roomy (length bs + 1) (omega arith))
     ∙ ap (λ (x : List Bool). x ++ (true ∷ [])) e ∙ replicate_more n true
 
--- 62 zeros and then 1, 0, 1: one word with its highest bit but one set, and a tail of one bit
-grouped : bits_of (4611686018427387904 ∷ []) 1 1 ≡ low_bits 62 0 ++ low_bits 3 5
-unfolding low_bits word_bits
-grouped = refl
-
 one_word : Words64 (4611686018427387904 ∷ [])
 one_word zero = lit< tt
 one_word (suc i) = pow_pos 64

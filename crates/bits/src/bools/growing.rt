@@ -1,5 +1,5 @@
 ghost use Rattle.std.specs.Prelude.{◌≡◌, ℕ, ◌+◌, ◌-◌, ◌^◌, ◌<◌, ◌≤◌, true, List, [], ◌∷◌, ◌++◌, length, Ok, Err, OnErr};
-ghost use Rattle.bitlaws.specs.Bits.{low_bits};
+ghost use Rattle.bitlaws.specs.Bits.{most_bits, low_bits};
 ghost use Rattle.bits.specs.Columns.{bits_in, fits_words, push_answer, push_list, lawful_group, group_answer, group_list, range_of, append_answer, append_list};
 
 use crate::bools::Bools;
@@ -28,6 +28,19 @@ impl<V: GrowStore<Item = u64>> Bools<V> {
         n <= MOST && n / WORD <= self.values.capacity()
     }
 
+    // Whether `n` more bits are: refused with 3 where they are not.
+    fn room_for(&self, n: usize) -> Result<(), Fault>
+        requires { n ≤ most_bits }
+        ensures { result ≡ push_answer (bits_in V.ReadStore self.now) (fits_words (length (bits_in V.ReadStore self.now) + n) (V.GrowStore.room self.now.values)) }
+    {
+        let len = self.len();
+        if self.has_room(len + n) {
+            Ok(())
+        } else {
+            Err(Fault::Full(len))
+        }
+    }
+
     // Adds a group of `count` bits, lowest first, for which there is room.
     pub(crate) fn add_bits(&mut self, group: u64, count: usize)
         requires group { (group < 2 ^ count) × (count ≤ 64) }
@@ -45,16 +58,14 @@ impl<V: GrowStore<Item = u64>> Bools<V> {
     }
 
     // Adds a bit, refused with 3 where the limit would be passed.
+    #[tactic(auto, using(crate::proofs::Growing::bit_group))]
     pub fn push(&mut self, bit: bool) -> Result<(), Fault>
         ensures answer { result ≡ push_answer (bits_in V.ReadStore self.old) (fits_words (length (bits_in V.ReadStore self.old) + 1) (V.GrowStore.room self.old.values)) }
         ensures list { bits_in V.ReadStore self.new ≡ push_list (bits_in V.ReadStore self.old) (fits_words (length (bits_in V.ReadStore self.old) + 1) (V.GrowStore.room self.old.values)) (bit ∷ []) }
         ensures room { V.GrowStore.room self.new.values ≡ V.GrowStore.room self.old.values }
         ensures same { OnErr result (self.new ≡ self.old) }
     {
-        let n = self.len();
-        if !self.has_room(n + 1) {
-            return Err(Fault::Full(n));
-        }
+        self.room_for(1)?;
         self.add_bits(bit as u64, 1);
         Ok(())
     }
@@ -70,16 +81,12 @@ impl<V: GrowStore<Item = u64>> Bools<V> {
         if !is_group(group, count) {
             return Err(Fault::Group(count));
         }
-        let n = self.len();
-        if !self.has_room(n + count) {
-            return Err(Fault::Full(n));
-        }
+        self.room_for(count)?;
         self.add_bits(group, count);
         Ok(())
     }
 
-    // Adds bits `start` to `end - 1` of a source, a word at a time, for which there is room. A loop by hand,
-    // since the library's ranges have no `step_by`.
+    // Adds bits `start` to `end - 1` of a source, a word at a time, for which there is room.
     pub(crate) fn add_range<S: ReadStore<Item = u64>>(
         &mut self,
         source: &Bools<S>,
@@ -91,11 +98,9 @@ impl<V: GrowStore<Item = u64>> Bools<V> {
         ensures list { bits_in V.ReadStore self.new ≡ bits_in V.ReadStore self.old ++ range_of (bits_in S.ReadStore source.now) start end }
         ensures room { V.GrowStore.room self.new.values ≡ V.GrowStore.room self.old.values }
     {
-        let mut pos = start;
-        while pos < end {
+        for pos in (start..end).step_by(WORD) {
             let count = (end - pos).min(WORD);
             self.add_bits(source.bits_at(pos, count), count);
-            pos += count;
         }
     }
 
@@ -115,10 +120,7 @@ impl<V: GrowStore<Item = u64>> Bools<V> {
         if end > source.len() {
             return Err(Fault::Past(end));
         }
-        let n = self.len();
-        if !self.has_room(n + end.saturating_sub(start)) {
-            return Err(Fault::Full(n));
-        }
+        self.room_for(end.saturating_sub(start))?;
         self.add_range(source, start, end);
         Ok(())
     }

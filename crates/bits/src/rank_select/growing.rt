@@ -1,5 +1,5 @@
 ghost use Rattle.std.specs.Prelude.{◌≡◌, ℕ, ◌+◌, ◌-◌, ◌*◌, ◌/◌, ◌^◌, ◌<◌, ◌≤◌, true, List, [], ◌∷◌, ◌++◌, length, Ok, Err, OnErr};
-ghost use Rattle.bitlaws.specs.Bits.{low_bits, rank_of, Counted, Lagging};
+ghost use Rattle.bitlaws.specs.Bits.{most_bits, low_bits, rank_of, Counted, Lagging};
 ghost use Rattle.bits.specs.Columns.{bits_in, column_bits, room_in, push_answer, push_list, group_answer, group_list, append_answer, append_list};
 
 use crate::bools::Bools;
@@ -30,6 +30,19 @@ impl<C: GrowStore<Item = u64>, V: GrowStore<Item = u64>> RankSelect<C, V> {
         self.values.has_room(n) && n / BITS_PER_CHUNK <= self.counts.capacity()
     }
 
+    // Whether `n` more bits are: refused with 3 where they are not.
+    fn room_for(&self, n: usize) -> Result<(), Fault>
+        requires { n ≤ most_bits }
+        ensures { result ≡ push_answer (column_bits V.ReadStore self.now) (room_in C.GrowStore.own V.GrowStore.own self.now (length (column_bits V.ReadStore self.now) + n)) }
+    {
+        let len = self.len();
+        if self.has_room(len + n) {
+            Ok(())
+        } else {
+            Err(Fault::Full(len))
+        }
+    }
+
     // Adds a group of `count` bits, lowest first, for which there is room.
     fn add_bits(&mut self, group: u64, count: usize)
         requires group { (group < 2 ^ count) × (count ≤ 64) }
@@ -54,6 +67,7 @@ impl<C: GrowStore<Item = u64>, V: GrowStore<Item = u64>> RankSelect<C, V> {
     }
 
     // Adds a bit, refused with 3 where the limit would be passed.
+    #[tactic(auto, using(crate::proofs::Growing::bit_group))]
     pub fn push(&mut self, bit: bool) -> Result<(), Fault>
         ensures answer { result ≡ push_answer (column_bits V.ReadStore self.old) (room_in C.GrowStore.own V.GrowStore.own self.old (length (column_bits V.ReadStore self.old) + 1)) }
         ensures list { column_bits V.ReadStore self.new ≡ push_list (column_bits V.ReadStore self.old) (room_in C.GrowStore.own V.GrowStore.own self.old (length (column_bits V.ReadStore self.old) + 1)) (bit ∷ []) }
@@ -66,16 +80,14 @@ impl<C: GrowStore<Item = u64>, V: GrowStore<Item = u64>> RankSelect<C, V> {
             self.add_to_tail(bit);
             return Ok(());
         }
-        let n = self.len();
-        if !self.has_room(n + 1) {
-            return Err(Fault::Full(n));
-        }
+        self.room_for(1)?;
         self.add_bits(bit as u64, 1);
         Ok(())
     }
 
     // Adds the `count` lowest bits of a group, lowest first: refused with 4 where the count is above 64 or
-    // a bit is set at or above it, then with 3.
+    // a bit is set at or above it, then with 3. The questions are those of `Bools`, under another limit, and
+    // counts follow: a text for both would be a trait for two types.
     pub fn push_bits(&mut self, group: u64, count: usize) -> Result<(), Fault>
         ensures answer { result ≡ group_answer (column_bits V.ReadStore self.old) (room_in C.GrowStore.own V.GrowStore.own self.old (length (column_bits V.ReadStore self.old) + count)) group count }
         ensures list { column_bits V.ReadStore self.new ≡ group_list (column_bits V.ReadStore self.old) (room_in C.GrowStore.own V.GrowStore.own self.old (length (column_bits V.ReadStore self.old) + count)) group count }
@@ -86,10 +98,7 @@ impl<C: GrowStore<Item = u64>, V: GrowStore<Item = u64>> RankSelect<C, V> {
         if !is_group(group, count) {
             return Err(Fault::Group(count));
         }
-        let n = self.len();
-        if !self.has_room(n + count) {
-            return Err(Fault::Full(n));
-        }
+        self.room_for(count)?;
         self.add_bits(group, count);
         Ok(())
     }
@@ -111,10 +120,7 @@ impl<C: GrowStore<Item = u64>, V: GrowStore<Item = u64>> RankSelect<C, V> {
         if end > source.len() {
             return Err(Fault::Past(end));
         }
-        let n = self.len();
-        if !self.has_room(n + end.saturating_sub(start)) {
-            return Err(Fault::Full(n));
-        }
+        self.room_for(end.saturating_sub(start))?;
         self.values.add_range(&source.values, start, end);
         update_counts(&mut self.counts, &self.values);
         Ok(())

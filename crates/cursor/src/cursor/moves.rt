@@ -115,13 +115,9 @@ impl Cursor {
             *self = self.at(n, self.count);
             return Ok(false);
         }
-        match column.rank(target) {
-            Ok(count) => {
-                *self = self.at(target, count as u64);
-                Ok(true)
-            }
-            Err(_) => unreachable(),
-        }
+        let count = column.rank(target).unwrap();
+        *self = self.at(target, count as u64);
+        Ok(true)
     }
 
     // Goes behind the one that `target` ones stand before, which it answers; none, and at the end, where
@@ -223,10 +219,8 @@ impl Cursor {
         ensures length { result.length ≡ self.now.length }
     {
         let n = column.len();
-        match column.rank(WORD * (n / WORD)) {
-            Ok(count) => self.at(n, count as u64),
-            Err(_) => unreachable(),
-        }
+        let count = column.rank(WORD * (n / WORD)).unwrap();
+        self.at(n, count as u64)
     }
 }
 
@@ -238,10 +232,7 @@ fn word_in<C: ReadStore<Item = u64>, V: ReadStore<Item = u64>>(
     requires within { block ≤ length (V.ReadStore.list column.now.values.values) }
     ensures { result ≡ slice_index_or (V.ReadStore.list column.now.values.values) block column.now.values.tail.word }
 {
-    match column.word_at(block) {
-        Ok(word) => word,
-        Err(_) => unreachable(),
-    }
+    column.word_at(block).unwrap()
 }
 
 // The first one in a block or behind it.
@@ -252,8 +243,5 @@ fn one_from<C: ReadStore<Item = u64>, V: ReadStore<Item = u64>>(
     requires near { block ≤ length (V.ReadStore.list column.now.values.values) + 1 }
     ensures { result ≡ first_from (column_bits V.ReadStore column.now) (64 * block) }
 {
-    match column.first_from(WORD * block) {
-        Ok(found) => found,
-        Err(_) => None,
-    }
+    column.first_from(WORD * block).unwrap_or(None)
 }

@@ -2,17 +2,7 @@ use Rattle.std.proofs.Common.{arith}
 use Rattle.bitlaws.proofs.Words.{length_bits}
 use Rattle.bits.proofs.rank_select.RankSelect.append.Goals as goal
 
-pub overflow_add-n : goal.overflow_add-n
-overflow_add-n g c =
-    let s = c.args.self.now.values in
+pub room_for-requires : goal.room_for-requires
+room_for-requires g c =
     let o = c.args.source.now.values in
-    omega (
-      arith,
-      c.len-n.ensures,
-      length_bits (g.V.ReadStore.list s.values) s.tail.word s.tail.bits,
-      c.args.self.now.values.held.small,
-      c.len.ensures,
-      length_bits (g.S.ReadStore.list o.values) o.tail.word o.tail.bits,
-      c.args.source.now.values.held.small,
-      c.saturating_sub.ensures,
-    )
+    omega (arith, c.saturating_sub.ensures, c.len.ensures, length_bits (g.S.ReadStore.list o.values) o.tail.word o.tail.bits, o.held.small)

@@ -24,18 +24,3 @@ returns-then-tail g c =
       others = c.add_to_tail.ensures.others;
       same = tt;
     }
-
-pub returns : goal.returns
-returns g c =
-    let s = c.args.self.now in
-    let bs = column_bits g.V.ReadStore s in
-    let v = g.V.GrowStore.room s.values.values in
-    let k = g.C.GrowStore.room s.counts in
-    let ok : fits (length bs + 1) v k ≡ true = ap (λ (x : ℕ). fits (x + 1) v k) (sym c.len-n.ensures) ∙ sym c.if-not-has_room.ensures in
-    record {
-      answer = pushed bs (fits (length bs + 1) v k) ok;
-      list = pushed_list bs _ (c.args.bit ∷ []) (fits (length bs + 1) v k) ok (c.add_bits.ensures.list ∙ ap (λ (x : List Bool). bs ++ x) (bit_group c.args.bit));
-      room = c.add_bits.ensures.room;
-      others = c.add_bits.ensures.others;
-      same = tt;
-    }
