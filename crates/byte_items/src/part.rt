@@ -8,7 +8,8 @@ use words::reading::{ReadStore, word_of};
 // The bytes in a word.
 const WORD_BYTES: usize = 8;
 
-// The first bytes of a part of a store, as many as it has at most: they are only read.
+// The first bytes of a part of a store, as many as it has at most: they are only read. Their number stands
+// beside the words, since it may end within the last of them.
 #[derive(Clone, Copy)]
 pub struct PartBytes<'a> {
     words: Part<'a>,

@@ -1,4 +1,5 @@
-// Wrappers that Rust or C can link, over buffers that the caller owns: for measuring beside the crate.
+// Wrappers that Rust or C can link, over buffers that the caller owns: for measuring beside the crate. The
+// buffers of a column are arguments one by one, and a range is two numbers: the C interface.
 #![tactic(auto)]
 
 use bits::rank_select::RankSelect;
@@ -27,7 +28,7 @@ fn push_each<C: GrowStore<Item = u64>, V: GrowStore<Item = u64>>(
     }
 }
 
-// Pushes `n` words of a pattern, a group of 64 bits each.
+// Pushes the words of a pattern, a group of 64 bits each.
 fn push_groups<C: GrowStore<Item = u64>, V: GrowStore<Item = u64>>(
     column: &mut RankSelect<C, V>,
     pattern: &[u64],
@@ -112,8 +113,8 @@ pub extern "C" fn rumbykai_select(
 }
 
 // Appends ranges of a source, which are given as pairs of start and end, to a column that is cleared
-// before each round. Twice here, as for visits: a bit column is no payload column, since it refuses an
-// empty range past its source.
+// before each round. Twice here, as for visits, and so are pushing and counting: a bit column is no payload
+// column, since it refuses an empty range past its source.
 fn append_ranges<
     C: GrowStore<Item = u64>,
     V: GrowStore<Item = u64>,

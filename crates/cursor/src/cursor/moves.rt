@@ -76,7 +76,7 @@ impl Cursor {
     }
 
     // The bit at the place, which is stepped over and counted, or none at the end. For walking over all
-    // bits.
+    // bits. A match and no `map`: its first arm moves the cursor.
     pub fn step<C: ReadStore<Item = u64>, V: ReadStore<Item = u64>>(
         &mut self,
         column: &RankSelect<C, V>,
