@@ -1,13 +1,13 @@
 -- What the growing calls answer, and what their columns then hold.
-use Rattle.std.proofs.Common.{◌≡◌, ℕ, ◌+◌, ◌-◌, ◌*◌, ◌/◌, ◌%◌, ◌^◌, ◌<◌, ◌≤◌, Bool, true, false, ◌&&◌, eqb, ltb, leb, List, [], ◌∷◌, ◌++◌, length, Ok, sym, refl, ap, ◌∙◌, subst, ap₂, subst₂, ⊎_elim, arith, lit<}
+use Rattle.std.proofs.Common.{◌≡◌, ℕ, ◌+◌, ◌-◌, ◌*◌, ◌/◌, ◌%◌, ◌^◌, ◌<◌, ◌≤◌, Bool, true, false, ◌&&◌, eqb, leb, List, [], ◌∷◌, ◌++◌, length, Ok, sym, refl, ap, ◌∙◌, subst, ap₂, subst₂, ⊎_elim, arith}
 use native.Mathlib.Nat.{div-eq_of_lt}
 use Rattle.std.proofs.lemmas.Nat.{mod_below, pow_pos, le-div}
 use Rattle.std.proofs.lemmas.List.{length_push}
-use Rattle.std.proofs.lemmas.Bool.{and_parts, leb-true, ltb-true, eq-eqb, ne_eqb, le-leb, lt-ltb, le-ltb, lt-leb, cases_lt}
+use Rattle.std.proofs.lemmas.Bool.{and_parts, leb-true, eq-eqb, ne_eqb, le-leb, lt-ltb, le-ltb, cases_lt}
 use Rattle.bitlaws.specs.Bits.{most_bits, low_bits, word_bits, bits_of, Words64, Held, Counted}
 use mir.Val.{bool_byte}
 use Rattle.bitlaws.proofs.Words.{length_bits}
-use Rattle.bitlaws.proofs.Groups.{low_one, bits_carry, bits_group, fit_push, joined_lt, rest_lt}
+use Rattle.bitlaws.proofs.Groups.{low_one, bits_carry, bits_group, fit_push, rest_lt}
 use Rattle.bits.specs.Columns.{fits_words, fits, push_answer, push_list, lawful_group}
 
 -- a bit, as the number that it is cast to
@@ -88,11 +88,6 @@ group_is a n h = ⊎_elim
     ne_eqb (a / 2 ^ n) 0 (λ e. omega arith) ∙ sym (ap₂ (λ (x y : Bool). x && y) (le-leb n 64 (omega arith)) (le-ltb a (2 ^ n) ge)))
     (cases_lt a (2 ^ n))
 
-pub group_parts : (a n : ℕ) → lawful_group a n ≡ true → (n ≤ 64) × (a < 2 ^ n)
-group_parts a n e =
-    let p = and_parts (leb n 64) (ltb a (2 ^ n)) e in
-    (leb-true n 64 p.0, ltb-true a (2 ^ n) p.1)
-
 -- the limit, put together from its parts
 pub fits_made : (n v k : ℕ) → n ≤ most_bits → n / 64 ≤ v → n / 1024 ≤ k → fits n v k ≡ true
 fits_made n v k a b c =
@@ -108,8 +103,8 @@ fits_less m n v k h e =
     let q = fits_parts n v p.0 in
     fits_made m v k (omega (arith, h, q.0)) (omega (arith, h, q.1)) (omega (arith, h, p.1))
 
--- one bit more that stays in the tail passes no limit
-pub fits_tail : (ws cs : List ℕ) (t k v n : ℕ) → Held ws t k → Counted cs (bits_of ws t k) → k < 63 → length ws ≤ v → length cs ≤ n → fits (length (bits_of ws t k) + 1) v n ≡ true
-fits_tail ws cs t k v n h counted few words counts =
+-- bits that stay in the tail pass no limit
+pub fits_tail : (ws cs : List ℕ) (t k m v n : ℕ) → Held ws t k → Counted cs (bits_of ws t k) → k + m < 64 → length ws ≤ v → length cs ≤ n → fits (length (bits_of ws t k) + m) v n ≡ true
+fits_tail ws cs t k m v n h counted few words counts =
     let long = length_bits ws t k in
-    fits_made (length (bits_of ws t k) + 1) v n (omega (arith, long, h.small)) (omega (arith, long, words)) (omega (arith, long, counted.many, counts))
+    fits_made (length (bits_of ws t k) + m) v n (omega (arith, long, h.small, few)) (omega (arith, long, words, few)) (omega (arith, long, counted.many, counts, few))

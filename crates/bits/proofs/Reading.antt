@@ -1,7 +1,7 @@
 -- What the reading calls answer, over the words and the tail.
 use Rattle.std.proofs.Common.{◌≡◌, ℕ, zero, suc, ◌+◌, ◌-◌, ◌*◌, ◌/◌, ◌%◌, ◌^◌, ◌<◌, ◌≤◌, Bool, false, cond, eqb, ltb, List, length, get_or, Ok, Option, sym, ap, ◌∙◌, ap₂, arith}
 use lib.Bits.{bit_and, and_mask}
-use lib.Count.{ones}
+use lib.Count.{ones, ones-le}
 use Rattle.std.proofs.lemmas.Bool.{lt-ltb, le-leb}
 use Rattle.bitlaws.specs.Bits.{bits_of, rank_of, first_from}
 use Rattle.bitlaws.proofs.Groups.{masked}
@@ -34,3 +34,13 @@ before_is cs bs (suc n) each h =
     let at : 1024 * (n + 1) ≡ 1024 * suc n = omega arith in
     let last : suc n - 1 ≡ n = omega arith in
     ap (λ (x : Bool). cond x (get_or cs (suc n - 1) 0) 0) (lt-ltb 0 (suc n) (omega arith)) ∙ ap (λ (x : ℕ). get_or cs x 0) last ∙ each n (omega arith) ∙ ap (rank_of bs) at
+
+-- the same, where words are counted
+pub before_words : (cs : List ℕ) (bs : List Bool) (n : ℕ) → ((j : ℕ) → j < length cs → get_or cs j 0 ≡ rank_of bs (1024 * (j + 1))) → n ≤ length cs → cond (ltb 0 n) (get_or cs (n - 1) 0) 0 ≡ rank_of bs (64 * (16 * n))
+before_words cs bs n each h =
+    let at : 1024 * n ≡ 64 * (16 * n) = omega arith in
+    before_is cs bs n each h ∙ ap (rank_of bs) at
+
+-- a word has at most 64 ones
+pub few_ones : (w : ℕ) → w < 2 ^ 64 → ones w ≤ 64
+few_ones w h = ones-le 64 w h

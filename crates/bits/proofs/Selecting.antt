@@ -6,7 +6,7 @@ use Rattle.std.proofs.lemmas.Bool.{true≢false, cases_lt}
 use Rattle.bitlaws.specs.Bits.{low_bits, bits_of, rank_of, select_of, Tailed}
 use Rattle.bitlaws.specs.Laws.{Selected}
 use Rattle.bitlaws.proofs.InWord.{selected_in, ones_word, ones_all}
-use Rattle.bitlaws.proofs.Selects.{select_none, select_place, select_few}
+use Rattle.bitlaws.proofs.Selects.{select_some, select_none, select_place, select_few}
 
 pub selected_inside : (bs : List Bool) (r p : ℕ) → Selected bs r p → p < length bs
 selected_inside bs r p s = ⊎_elim
@@ -17,11 +17,17 @@ selected_inside bs r p s = ⊎_elim
 -- word b, which `count` ones stand before
 module _ (ws : List ℕ) (t k b w count rank : ℕ) (h : b ≤ length ws) (tail : Tailed t k) (is : w ≡ get_or ws b t)
     (counted : count ≡ rank_of (bits_of ws t k) (64 * b)) (below : count ≤ rank) where
-  pub some_is : (p : ℕ) → Some p ≡ select_of (low_bits 64 w) (rank - count) → Selected (bits_of ws t k) rank (64 * b + p)
-  some_is p e =
+  selected : (p : ℕ) → Some p ≡ select_of (low_bits 64 w) (rank - count) → Selected (bits_of ws t k) rank (64 * b + p)
+  selected p e =
       let here : Selected (low_bits 64 (get_or ws b t)) (rank - count) p = subst (λ (x : ℕ). Selected (low_bits 64 x) (rank - count) p) is (select_place (low_bits 64 w) (rank - count) p (sym e)) in
       let all : rank_of (bits_of ws t k) (64 * b) + (rank - count) ≡ rank = omega arith in
       subst (λ (x : ℕ). Selected (bits_of ws t k) x (64 * b + p)) all (selected_in ws t k b (rank - count) p h tail here)
+
+  pub some_is : (p : ℕ) → Some p ≡ select_of (low_bits 64 w) (rank - count) → Some (64 * b + p) ≡ select_of (bits_of ws t k) rank
+  some_is p e = sym (select_some (bits_of ws t k) rank (64 * b + p) (selected p e))
+
+  pub some_inside : (p : ℕ) → Some p ≡ select_of (low_bits 64 w) (rank - count) → 64 * b + p < length (bits_of ws t k)
+  some_inside p e = selected_inside (bits_of ws t k) rank (64 * b + p) (selected p e)
 
   pub none_is : None ≡ select_of (low_bits 64 w) (rank - count) → w < 2 ^ 64 → (b < length ws → rank < count + ones (get_or ws b 0)) → None ≡ select_of (bits_of ws t k) rank
   none_is e fit above =

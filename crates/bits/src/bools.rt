@@ -2,6 +2,7 @@ ghost use Rattle.std.specs.Prelude.{◌≡◌, ℕ, ◌+◌, ◌*◌, ◌/◌, �
 ghost use Rattle.std.proofs.Props.{props};
 ghost use Rattle.bitlaws.specs.Bits.{most_bits, low_bits, rank_of, first_from, Held};
 
+use crate::group::Group;
 use crate::tail::{Tail, WORD};
 use refusals::fault::Fault;
 use words::reading::{GrowStore, MOST, Owned, ReadStore, put_in, word_of};
@@ -20,6 +21,7 @@ pub struct Bools<V: ReadStore<Item = u64>> {
 impl<V: ReadStore<Item = u64>> Bools<V> {
     ghost use Rattle.bits.specs.Columns.{bits_in, get_answer, first_answer};
 
+    #[tactic(auto, using(bitlaws::proofs::Words::length_bits))]
     pub fn len(&self) -> usize
         ensures { result ≡ length (bits_in V.ReadStore self.now) }
     {
@@ -52,6 +54,7 @@ impl<V: ReadStore<Item = u64>> Bools<V> {
     }
 
     // Bit `index`, refused with 1 outside.
+    #[tactic(auto, using(bitlaws::proofs::Words::length_bits, crate::proofs::Reading::get_is))]
     pub fn get(&self, index: usize) -> Result<bool, Fault>
         ensures { result ≡ get_answer (bits_in V.ReadStore self.now) index }
     {
@@ -63,6 +66,7 @@ impl<V: ReadStore<Item = u64>> Bools<V> {
     }
 
     // The ones in the first `upper` words, from those in the first `lower`.
+    #[tactic(auto, using(bitlaws::proofs::Words::length_bits, bitlaws::proofs::Words::rank_word, bitlaws::proofs::Words::rank_le, crate::proofs::Reading::few_ones))]
     pub(crate) fn ones_up_to(&self, mut count: usize, lower: usize, upper: usize) -> usize
         requires within { (lower ≤ upper) × (upper ≤ length (V.ReadStore.list self.now.values)) }
         requires counted { count ≡ rank_of (bits_in V.ReadStore self.now) (64 * lower) }
@@ -75,7 +79,9 @@ impl<V: ReadStore<Item = u64>> Bools<V> {
     }
 
     // The word with the one that `rank` ones stand before, or the tail's number, from the ones in the
-    // first `start` words on; and the ones before it.
+    // first `start` words on; and the ones before it. No option for the tail: it is the word behind the
+    // last, which `word` reads by that number.
+    #[tactic(auto, using(bitlaws::proofs::Words::length_bits, bitlaws::proofs::Words::rank_word, bitlaws::proofs::Words::rank_le, crate::proofs::Reading::few_ones))]
     pub(crate) fn word_with(&self, rank: u64, start: usize, mut count: u64) -> (usize, u64)
         requires within { start ≤ length (V.ReadStore.list self.now.values) }
         requires counted { count ≡ rank_of (bits_in V.ReadStore self.now) (64 * start) }
@@ -97,6 +103,7 @@ impl<V: ReadStore<Item = u64>> Bools<V> {
     }
 
     // The first one in word `start` or behind it, the tail's included, or none.
+    #[tactic(auto, using(bitlaws::proofs::Firsts::first_word, bitlaws::proofs::Firsts::rank_skip, bitlaws::proofs::Firsts::first_past))]
     fn first_in(&self, start: usize) -> Option<usize>
         ensures { result ≡ first_from (bits_in V.ReadStore self.now) (64 * start) }
     {
@@ -110,6 +117,7 @@ impl<V: ReadStore<Item = u64>> Bools<V> {
     }
 
     // The first one at or after `pos`, or none; refused with 1 above the length.
+    #[tactic(auto, using(bitlaws::proofs::Words::length_bits, bitlaws::proofs::Firsts::first_here, bitlaws::proofs::Firsts::rank_on, crate::proofs::Reading::first_is, std::proofs::lemmas::Nat::trailing_le))]
     pub fn first_from(&self, pos: usize) -> Result<Option<usize>, Fault>
         ensures { result ≡ first_answer (bits_in V.ReadStore self.now) pos }
     {
@@ -125,6 +133,7 @@ impl<V: ReadStore<Item = u64>> Bools<V> {
     }
 
     // The bits from `pos` on, of which the lowest `count` are those asked for.
+    #[tactic(auto, using(bitlaws::proofs::Words::length_bits, bitlaws::proofs::Ranges::one_word_range, bitlaws::proofs::Ranges::two_word_range))]
     fn bits_from(&self, pos: usize, count: usize) -> u64
         requires count { (0 < count) × (count ≤ 64) }
         requires within { pos + count ≤ length (bits_in V.ReadStore self.now) }
@@ -139,18 +148,13 @@ impl<V: ReadStore<Item = u64>> Bools<V> {
         low | (self.word(block + 1) << (WORD - bit))
     }
 
-    // The `count` bits from `pos` on, lowest first, and no bit above them.
-    pub(crate) fn bits_at(&self, pos: usize, count: usize) -> u64
+    // The `count` bits from `pos` on.
+    pub(crate) fn bits_at(&self, pos: usize, count: usize) -> Group
         requires count { (0 < count) × (count ≤ 64) }
         requires within { pos + count ≤ length (bits_in V.ReadStore self.now) }
-        ensures list { low_bits count result ≡ take count (drop pos (bits_in V.ReadStore self.now)) }
-        ensures clean { result < 2 ^ count }
+        ensures list { low_bits result.count result.word ≡ take count (drop pos (bits_in V.ReadStore self.now)) }
+        ensures count { result.count ≡ count }
     {
-        let bits = self.bits_from(pos, count);
-        if count < WORD {
-            bits & ((1 << count) - 1)
-        } else {
-            bits
-        }
+        Group::lowest(self.bits_from(pos, count), count)
     }
 }

@@ -12,6 +12,7 @@ pub struct Sought {
 
 impl Sought {
     // The half in which the one stands, of the `2 * half` lowest bits.
+    #[tactic(auto, using(bitlaws::proofs::InWord::ones_split, crate::proofs::Halves::masked_ones, crate::proofs::Halves::stays))]
     fn halved(self, half: usize) -> Self
         requires width { half ≤ 32 }
         requires near { self.k < count_ones (self.word % 2 ^ (half + half)) }
@@ -33,6 +34,7 @@ impl Sought {
 }
 
 // The place of the `k`-th one of a word, counted from 0, or none: six halvings, whatever the word.
+#[tactic(auto, using(bitlaws::proofs::InWord::ones_word, bitlaws::proofs::Selects::select_none))]
 pub(crate) fn select_in_word(word: u64, k: u64) -> Option<usize>
     ensures { result ≡ select_of (low_bits 64 word) k }
 {

@@ -2,6 +2,7 @@
 #![tactic(auto)]
 
 pub mod bools;
+pub mod group;
 mod in_word;
 pub mod rank_select;
 pub mod tail;

@@ -55,6 +55,7 @@ impl<C: ReadStore<Item = u64>, V: ReadStore<Item = u64>> RankSelect<C, V> {
     }
 
     // Full word `block`, or the tail's behind the last one; refused with 1 past it.
+    #[tactic(auto, using(bitlaws::proofs::Words::length_bits))]
     pub fn word_at(&self, block: usize) -> Result<u64, Fault>
         ensures { result ≡ word_or_tail (V.ReadStore.list self.now.values.values) self.now.values.tail.word block }
     {
@@ -72,6 +73,7 @@ impl<C: ReadStore<Item = u64>, V: ReadStore<Item = u64>> RankSelect<C, V> {
     }
 
     // The number of ones before `index`, refused with 1 above the length.
+    #[tactic(auto, using(bitlaws::proofs::Words::length_bits, bitlaws::proofs::Words::rank_le, crate::proofs::Reading::rank_sum, crate::proofs::Reading::rank_is, crate::proofs::Reading::before_words))]
     pub fn rank(&self, index: usize) -> Result<usize, Fault>
         ensures { result ≡ rank_answer (column_bits V.ReadStore self.now) index }
     {
@@ -92,6 +94,7 @@ impl<C: ReadStore<Item = u64>, V: ReadStore<Item = u64>> RankSelect<C, V> {
     // The first chunk after which more than `rank` ones stand, by halving over the counts; behind the
     // last count where there is none. A loop by hand: `partition_point` is of slices, and a store is
     // none.
+    #[tactic(auto, using(bitlaws::proofs::Words::rank_none))]
     fn chunk_with(&self, rank: u64) -> usize
         ensures within { result ≤ length (C.ReadStore.list self.now.counts) }
         ensures below { rank_of (column_bits V.ReadStore self.now) (1024 * result) ≤ rank }
@@ -111,6 +114,7 @@ impl<C: ReadStore<Item = u64>, V: ReadStore<Item = u64>> RankSelect<C, V> {
     }
 
     // The place of the one that `rank` ones stand before, or none.
+    #[tactic(auto, using(bitlaws::proofs::Words::length_bits, crate::proofs::Reading::before_is))]
     pub fn select(&self, rank: u64) -> Option<usize>
         ensures { result ≡ select_of (column_bits V.ReadStore self.now) rank }
     {

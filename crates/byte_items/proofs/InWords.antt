@@ -1,9 +1,11 @@
 -- Which bytes words hold.
-use Rattle.std.proofs.Common.{◌≡◌, ℕ, zero, suc, ◌+◌, ◌-◌, ◌*◌, ◌/◌, ◌%◌, ◌^◌, ◌<◌, ◌≤◌, min, List, [], ◌∷◌, length, get_or, sym, refl, ap, ◌∙◌, inl, inr, div-one, arith}
+use Rattle.std.proofs.Common.{◌≡◌, ℕ, zero, suc, ◌+◌, ◌-◌, ◌*◌, ◌/◌, ◌%◌, ◌^◌, ◌<◌, ◌≤◌, min, List, [], ◌∷◌, length, get_or, Ok, slice_index, sym, refl, ap, ◌∙◌, inl, inr, div-one, arith}
 use lib.Bits.{bit_and}
 use Rattle.std.proofs.lemmas.Nat.{shr-shr, and_mask}
 use Rattle.std.proofs.lemmas.List.{length-append, length-take, get_or_append_left, get_or-append_right, get_or-take}
 use Rattle.std.proofs.lemmas.Bool.{cases_lt}
+use Rattle.words.specs.Words.{got}
+use Rattle.words.proofs.Got.{got_inside}
 use Rattle.byte_items.specs.Pack.{low_bytes, bytes_in, part_bytes}
 
 -- byte i of a number
@@ -45,9 +47,10 @@ byte_in [] i h = let z : ⊥ = omega arith in elim z [ ]
 byte_in (w ∷ ws) i h =
     elim (cases_lt i 8) [ inl l ↦ byte_first w ws i l | inr l ↦ byte_behind w ws i l (byte_in ws (i - 8) (omega arith)) ]
 
--- byte i, as shifts and masks read it
-pub part_byte : (ws : List ℕ) (n i : ℕ) → i < length (part_bytes ws n) → bit_and (get_or ws (i / 8) 0 / 2 ^ (8 * (i % 8))) 255 ≡ get_or (part_bytes ws n) i 0
-part_byte ws n i h =
+-- byte i, as shifts and masks read it in its word
+pub part_got : {F : Type 0} (f : F) (ws : List ℕ) (n i w : ℕ) → i < length (part_bytes ws n) → w ≡ slice_index ws (i / 8) → Ok (bit_and (w / 2 ^ (8 * (i % 8))) 255) ≡ got f (part_bytes ws n) i
+part_got f ws n i w h e =
     let l = length_part_bytes ws n in
-    and_mask (get_or ws (i / 8) 0 / 2 ^ (8 * (i % 8))) 8
-    ∙ sym (get_or-take n (bytes_in ws) i 0 (omega arith) ∙ byte_in ws i (omega arith))
+    ap (λ w. Ok (bit_and (w / 2 ^ (8 * (i % 8))) 255)) e
+    ∙ ap Ok (and_mask (get_or ws (i / 8) 0 / 2 ^ (8 * (i % 8))) 8 ∙ sym (get_or-take n (bytes_in ws) i 0 (omega arith) ∙ byte_in ws i (omega arith)))
+    ∙ sym (got_inside 0 f (part_bytes ws n) i h)

@@ -40,7 +40,7 @@ impl<'a> ReadStore for PartBytes<'a> {
         }
     }
 
-    #[tactic(auto, using(crate::proofs::InWords::length_part_bytes, words::proofs::Got::got_outside))]
+    #[tactic(auto, using(crate::proofs::InWords::length_part_bytes, crate::proofs::InWords::part_got, words::proofs::Got::got_outside))]
     fn item(&self, i: usize) -> Result<u8, Fault> {
         if i >= self.len() {
             return Err(Fault::Outside(i));

@@ -1,6 +1,6 @@
 -- What an append answers and leaves, case by case.
-use Rattle.std.proofs.Common.{◌≡◌, ℕ, ◌<◌, ◌≤◌, Bool, true, false, ltb, leb, List, ◌++◌, length, is_ok, Ok, Err, Result, sym, refl, ap, ◌∙◌, subst, append-nil, le-ltb, lt-ltb, leb-true}
-use Rattle.std.specs.Result.{OnErr}
+use Rattle.std.proofs.Common.{◌≡◌, ℕ, ◌<◌, ◌≤◌, Bool, true, false, ltb, leb, List, ◌++◌, length, is_ok, Ok, Err, Result, sym, refl, ap, ◌∙◌, subst, append-nil, le-ltb, lt-ltb, leb-true, arith}
+use Rattle.std.specs.Result.{OnErr, result_map_both}
 use borrow.Author.Tests.{lt-leb}
 use Rattle.columns.specs.Plain.{grown, part, append_answer, append_list}
 use Rattle.columns.proofs.Lists.{part_none}
@@ -8,6 +8,15 @@ use Rattle.columns.proofs.Lists.{part_none}
 pub ok_answer : {F : Type 0} (r : Result (Unit {0}) F) → is_ok r ≡ true → r ≡ Ok tt
 ok_answer (Ok u) e = refl
 ok_answer (Err f) e = let z : false ≡ true = e in cc
+
+-- a call whose fault was given its side, seen from the answer with the side
+pub inner_ok : {X F G : Type 0} (side : F → G) (x : X) (r : Result X F) → ◌≡◌ {A = Result X G} (Ok x) (result_map_both (λ u. u) side r) → r ≡ Ok x
+inner_ok side x (Ok y) e = let w : x ≡ y = cc in ap Ok (sym w)
+inner_ok side x (Err f) e = let w : ◌≡◌ {A = ℕ} 0 1 = cc in let v : ⊥ = omega arith in elim v [ ]
+
+pub inner_err : {X F G P : Type 0} (side : F → G) (h : G) (r : Result X F) → Err h ≡ result_map_both (λ u. u) side r → OnErr r P → P
+inner_err side h (Ok y) e p = let w : ◌≡◌ {A = ℕ} 0 1 = cc in let v : ⊥ = omega arith in elim v [ ]
+inner_err side h (Err f) e p = p
 
 -- what holds whichever way a call went holds where it was refused
 pub on_refusal : {T F P : Type 0} (r : Result T F) → P → OnErr r P

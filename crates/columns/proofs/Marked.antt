@@ -1,5 +1,5 @@
 -- What a bit column says of its marks.
-use Rattle.std.proofs.Common.{◌≡◌, ℕ, ◌+◌, ◌-◌, ◌<◌, ◌≤◌, Bool, true, false, cond, ltb, leb, List, [], ◌∷◌, ◌++◌, length, get_or, take, drop, Ok, sym, refl, ap, ◌∙◌, subst, arith, length-drop, length-take, ltb-true, leb-true}
+use Rattle.std.proofs.Common.{◌≡◌, ℕ, ◌+◌, ◌-◌, ◌<◌, ◌≤◌, Bool, true, false, cond, ltb, leb, List, [], ◌∷◌, ◌++◌, length, get_or, take, drop, Ok, sym, refl, ap, ◌∙◌, subst, arith, length-drop, length-take, ltb-false, ltb-true, leb-true, ◌⊎◌, inl, inr, Err}
 use Rattle.std.proofs.lemmas.List.{take-append-drop, take_all}
 use Rattle.words.specs.declared.reading.ReadStore.{Ghosts}
 use Rattle.words.specs.declared.reading.GrowStore.{Ghosts as Growing}
@@ -9,7 +9,9 @@ use Rattle.bitlaws.proofs.Ranks.{rank_step}
 use Rattle.columns.specs.Plain.{part}
 use Rattle.columns.proofs.Lists.{take_range}
 use Rattle.bits.specs.declared.rank_select.RankSelect.{RankSelect}
-use Rattle.bits.specs.Columns.{column_bits, room_in, get_answer, rank_answer}
+use Rattle.bits.specs.Columns.{column_bits, room_in, get_answer, rank_answer, push_answer, append_answer}
+use Rattle.refusals.specs.declared.fault.Fault.{Fault}
+use Rattle.refusals.specs.declared.fault.Fault.TheVariants.{Past, Full}
 use Rattle.bits.proofs.Growing.{fits_made}
 
 no_way : {A : Type 0} → ⊥ → A
@@ -74,3 +76,26 @@ zeros_rise bs s e h =
 
 pub zeros_most : (bs : List Bool) (e n : ℕ) → e ≤ length bs → ones_among bs + n ≡ length bs → e - rank_of bs e ≤ n
 zeros_most bs e n h m = omega (arith, rank_all bs e, ones_length (drop e bs), length-drop e bs, rank_under bs e)
+
+-- what the marks answered to a question, told apart
+pub room_granted : (bs : List Bool) (ok : Bool) → Ok tt ≡ push_answer bs ok → ok ≡ true
+room_granted bs true e = refl
+room_granted bs false e = let z : ◌≡◌ {A = ℕ} 0 1 = cc in no_way (omega arith)
+
+pub room_refused : (bs : List Bool) (ok : Bool) (f : Fault) → Err f ≡ push_answer bs ok → (ok ≡ false) × (f ≡ Full (length bs))
+room_refused bs true f e = let z : ◌≡◌ {A = ℕ} 0 1 = cc in no_way (omega arith)
+room_refused bs false f e = let w : f ≡ Full (length bs) = cc in (refl, w)
+
+pub range_granted : (bs : List Bool) (ok : Bool) (src : List Bool) (e : ℕ) → Ok tt ≡ append_answer bs ok src e → (e ≤ length src) × (ok ≡ true)
+range_granted bs ok src e = go (ltb (length src) e) refl
+  where
+    go : (t : Bool) → ltb (length src) e ≡ t → Ok tt ≡ append_answer bs ok src e → (e ≤ length src) × (ok ≡ true)
+    go true p q = let r = rw p at q in let z : ◌≡◌ {A = ℕ} 0 1 = cc in no_way (omega arith)
+    go false p q = (ltb-false _ _ p, room_granted bs ok (rw p at q))
+
+pub range_refused : (bs : List Bool) (ok : Bool) (src : List Bool) (e : ℕ) (f : Fault) → Err f ≡ append_answer bs ok src e → ((length src < e) × (f ≡ Past e)) ⊎ ((e ≤ length src) × ((ok ≡ false) × (f ≡ Full (length bs))))
+range_refused bs ok src e f = go (ltb (length src) e) refl
+  where
+    go : (t : Bool) → ltb (length src) e ≡ t → Err f ≡ append_answer bs ok src e → ((length src < e) × (f ≡ Past e)) ⊎ ((e ≤ length src) × ((ok ≡ false) × (f ≡ Full (length bs))))
+    go true p q = let r = rw p at q in let w : f ≡ Past e = cc in inl (ltb-true _ _ p, w)
+    go false p q = inr (ltb-false _ _ p, room_refused bs ok f (rw p at q))

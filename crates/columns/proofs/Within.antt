@@ -1,6 +1,5 @@
 -- Lists within a capacity.
-use Rattle.std.proofs.Common.{◌≡◌, ℕ, ◌+◌, ◌-◌, ◌<◌, ◌≤◌, Bool, true, false, ltb, List, [], ◌∷◌, ◌++◌, length, is_ok, Ok, Err, refl, arith, length-append, ltb-false, ltb-true, le-leb, leb-true}
-use borrow.Author.Tests.{lt-leb}
+use Rattle.std.proofs.Common.{◌≡◌, ℕ, ◌+◌, ◌-◌, ◌<◌, ◌≤◌, Bool, true, false, ltb, List, ◌++◌, length, is_ok, Ok, Err, refl, arith, length-append, ltb-false, ltb-true, le-leb, leb-true}
 use Rattle.refusals.specs.Faults.{number_of}
 use Rattle.refusals.specs.declared.fault.Fault.{Fault}
 use Rattle.refusals.specs.declared.fault.Fault.TheVariants.{Full}
@@ -25,15 +24,6 @@ module _ {A : Type 0} (cap : ℕ) where
       go : (b : Bool) → within cap ys ≡ b → within_answer cap xs ys ≡ Err f → number_of f ≡ 3
       go true e q = let p = rw e at q in let z : ◌≡◌ {A = ℕ} 0 1 = cc in let w : ⊥ = omega arith in elim w [ ]
       go false e q = let p = rw e at q in let w : f ≡ Full (length xs) = cc in rw w
-
-  pub answer_over : (xs ys : List A) → cap < length ys → within_answer cap xs ys ≡ Err (Full (length xs))
-  answer_over xs ys h = let q : within cap ys ≡ false = lt-leb _ _ h in rw q
-
-  pub answer_fits : (xs ys : List A) → length ys ≤ cap → within_answer cap xs ys ≡ Ok tt
-  answer_fits xs ys h = let q : within cap ys ≡ true = le-leb _ _ h in rw q
-
-  pub one_more : (xs : List A) (x : A) → length (xs ++ (x ∷ [])) ≡ length xs + 1
-  one_more xs x = omega (arith, length-append xs (x ∷ []))
 
   pub range_more : (xs src : List A) (s e : ℕ) → s ≤ e → e ≤ length src → length (xs ++ part src s e) ≡ length xs + (e - s)
   range_more xs src s e h k = omega (arith, length-append xs (part src s e), length_part src s e h k)

@@ -39,7 +39,7 @@ pub trait Payload: Column {
     fn fits(&self, x: Self::Item) -> Result<(), Self::Fault>
         ensures { result ≡ ask self.now (Self.items self.now) (Self.items self.now ++ (x ∷ [])) };
 
-    // Whether a range of a source does: what `append` would answer.
+    // Whether a range of a source does, two numbers as the rules speak of it: what `append` would answer.
     fn fits_range(&self, source: &Self, start: usize, end: usize) -> Result<(), Self::Fault>
         ensures { result ≡ append_answer Self.Fault.Refusal.past (ask self.now) (Self.items self.now) (Self.items source.now) start end };
 

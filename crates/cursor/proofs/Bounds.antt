@@ -1,13 +1,12 @@
 -- Where the answers of a column lie.
-use Rattle.std.proofs.Common.{◌≡◌, ℕ, ◌<◌, ◌≤◌, Bool, true, false, cond, leb, List, length, Some, Ok, Err, Option, sym, ◌∙◌, ⊎_elim, arith}
+use Rattle.std.proofs.Common.{◌≡◌, ℕ, ◌<◌, ◌≤◌, Bool, true, false, cond, leb, List, length, Some, Ok, Err, sym, arith}
 use Rattle.refusals.specs.declared.fault.Fault.{Fault}
 use Rattle.refusals.specs.declared.fault.Fault.TheVariants.{Outside}
-use Rattle.bitlaws.specs.Bits.{most_bits, bits_of, rank_of, select_of, first_from, Held}
-use Rattle.bitlaws.proofs.Words.{rank_under, length_bits}
+use Rattle.bitlaws.specs.Bits.{rank_of, select_of, first_from}
+use Rattle.bitlaws.proofs.Words.{rank_under}
 use Rattle.bitlaws.proofs.Selects.{select_place}
 use Rattle.bitlaws.proofs.Firsts.{first_finds_lem}
-use Rattle.std.proofs.lemmas.Bool.{le-leb, cases_lt}
-use Rattle.bits.specs.Columns.{rank_answer, first_answer}
+use Rattle.bits.specs.Columns.{rank_answer}
 use Rattle.bits.proofs.Selecting.{selected_inside}
 
 -- an answer is what stands in the Ok
@@ -25,7 +24,3 @@ pub select_bounds : (bs : List Bool) (r q : ℕ) → Some q ≡ select_of bs r �
 select_bounds bs r q e =
     let s = select_place bs r q (sym e) in
     (omega (arith, s.rank, rank_under bs q), selected_inside bs r q s)
-
--- a column is far from the end of its numbers
-pub column_small : (ws : List ℕ) (t k : ℕ) → Held ws t k → length (bits_of ws t k) ≤ most_bits
-column_small ws t k h = omega (arith, length_bits ws t k, h.small)

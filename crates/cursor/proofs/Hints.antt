@@ -18,7 +18,7 @@ use Rattle.refusals.specs.declared.fault.Fault.TheVariants.{Outside}
 use Rattle.std.specs.Result.{result_unwrap_or}
 use Rattle.bits.specs.Columns.{first_answer}
 use Rattle.cursor.specs.Hint.{above}
-use Rattle.cursor.specs.Moves.{Spot, next_one, after_one, meets, told, left}
+use Rattle.cursor.proofs.Bounds.{first_bounds}
 
 -- below the lowest one of a number there is nothing
 trailing_mod : (k n : ℕ) → n % 2 ^ count_trailing_zeros k n ≡ 0
@@ -127,20 +127,13 @@ module _ (ws : List ℕ) (t k b r w : ℕ) (h : Held ws t k) (le : b ≤ length 
       let all : w % 2 ^ r ≡ w = omega (arith, above_le w r) in
       ap (select_of (bits_of ws t k)) (at ∙ ap (λ (x : ℕ). rank_of (bits_of ws t k) (64 * b) + ones x) (all ∙ is) ∙ sym (rank_next ws t k b h le))
 
--- what the cursor behind the lowest one keeps
-pub behind_facts : (w r rest : ℕ) → w < 2 ^ 64 → rest ≡ above w r → (rest ≡ 0 → ⊥) → (r ≤ count_trailing_zeros 64 rest) × (count_trailing_zeros 64 rest < 64) × (bit_and rest (rest - 1) ≡ above w (count_trailing_zeros 64 rest + 1))
-behind_facts w r rest fit e some =
-    let some' : above w r ≡ 0 → ⊥ = λ z. some (e ∙ z) in
-    subst (λ (x : ℕ). (r ≤ count_trailing_zeros 64 x) × (count_trailing_zeros 64 x < 64) × (bit_and x (x - 1) ≡ above w (count_trailing_zeros 64 x + 1))) (sym e)
-    (past_r w r fit some', in_word w r fit some', cleared w r fit some')
-
 -- the same from a place p in block b, or right behind it
 module _ (ws : List ℕ) (t k p b w rest : ℕ) (h : Held ws t k) (begun : 64 * b ≤ p) (ended : p ≤ 64 * b + 64) (inside : p ≤ 64 * length ws + k)
     (is : w ≡ get_or ws b t) (e : rest ≡ above w (p - 64 * b)) where
   at_place : 64 * b + (p - 64 * b) ≡ p
   at_place = omega arith
 
-  pub block_in : b ≤ length ws
+  block_in : b ≤ length ws
   block_in = omega (arith, h.tailed.few)
 
   pub some_at : w < 2 ^ 64 → (rest ≡ 0 → ⊥) → first_from (bits_of ws t k) p ≡ Some (64 * b + count_trailing_zeros 64 rest)
@@ -148,6 +141,10 @@ module _ (ws : List ℕ) (t k p b w rest : ℕ) (h : Held ws t k) (begun : 64 * 
       ap (first_from (bits_of ws t k)) (sym at_place)
       ∙ hint_some ws t k b (p - 64 * b) w h block_in (omega arith) (omega arith) is fit (λ z. some (e ∙ z))
       ∙ ap (λ (x : ℕ). Some (64 * b + count_trailing_zeros 64 x)) (sym e)
+
+  -- which is in the column
+  pub some_in : w < 2 ^ 64 → (rest ≡ 0 → ⊥) → 64 * b + count_trailing_zeros 64 rest < length (bits_of ws t k)
+  some_in fit some = (first_bounds (bits_of ws t k) p (64 * b + count_trailing_zeros 64 rest) (sym (some_at fit some))).1
 
   pub none_at : rest ≡ 0 → first_from (bits_of ws t k) p ≡ first_from (bits_of ws t k) (64 * (b + 1))
   none_at none = ap (first_from (bits_of ws t k)) (sym at_place) ∙ hint_none ws t k b (p - 64 * b) w h block_in (omega arith) (omega arith) is (sym e ∙ none)
@@ -166,14 +163,3 @@ first_or_none bs i r e = ⊎_elim
     let q : r ≡ Ok (first_from bs i) = e ∙ simp (le-leb i (length bs) ge) in
     ap (λ (x : Result (Option ℕ) Fault). result_unwrap_or x None) q)
     (cases_lt (length bs) i)
-
--- what next_one answers, and where it leads
-module _ (bs : List Bool) (s : Spot) (n : ℕ) (long : length bs ≡ n) where
-  accepted : meets bs n ≡ Ok tt
-  accepted = simp (eq-eqb (length bs) n long)
-
-  pub went : (o : Option ℕ) → first_from bs s.0 ≡ o → (Ok o ≡ told (meets bs n) (next_one bs s).0) × (after_one bs s o ≡ left (meets bs n) (next_one bs s).1 s)
-  went o e = (
-    sym (ap (λ (x : Result (Unit {0}) Fault). told x (next_one bs s).0) accepted ∙ ap Ok e),
-    sym (ap (λ (x : Result (Unit {0}) Fault). left x (next_one bs s).1 s) accepted ∙ ap (after_one bs s) e),
-  )

@@ -8,6 +8,7 @@ ghost use Rattle.columns.specs.Kinds;
 ghost use Rattle.columns.proofs.Within.{within_begins, within_asks, within_third};
 
 use crate::kind::EmptiesKind;
+use columns::asking::{one_within, range_within};
 use columns::column::{Column, Payload};
 use columns::kind::Kind;
 use refusals::fault::Fault;
@@ -70,25 +71,11 @@ impl Payload for Empties {
     ghost third = { λ s xs ys f e. within_third Kinds.most_items xs ys f e };
 
     fn fits(&self, _x: ()) -> Result<(), Fault> {
-        if self.count >= MOST {
-            return Err(Fault::Full(self.count));
-        }
-        Ok(())
+        one_within(self, MOST)
     }
 
-    // The questions are those of `Items`: a text for both would be a function of five numbers.
     fn fits_range(&self, source: &Self, start: usize, end: usize) -> Result<(), Fault> {
-        if start >= end {
-            return Ok(());
-        }
-        if end > source.count {
-            return Err(Fault::Past(end));
-        }
-        let n = self.count;
-        if end - start > MOST - n {
-            return Err(Fault::Full(n));
-        }
-        Ok(())
+        range_within(self, source, MOST, start, end)
     }
 
     fn push(&mut self, x: ()) -> Result<(), Fault> {

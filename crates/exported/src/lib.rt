@@ -17,27 +17,6 @@ pub(crate) fn pattern_bit(pattern: &[u64], i: usize) -> bool {
     (pattern[(i / 64) % pattern.len()] >> (i % 64)) & 1 == 1
 }
 
-// Pushes `n` bits of a pattern, one by one.
-fn push_each<C: GrowStore<Item = u64>, V: GrowStore<Item = u64>>(
-    column: &mut RankSelect<C, V>,
-    pattern: &[u64],
-    n: usize,
-) {
-    for i in 0..n {
-        let _ = column.push(pattern_bit(pattern, i));
-    }
-}
-
-// Pushes the words of a pattern, a group of 64 bits each.
-fn push_groups<C: GrowStore<Item = u64>, V: GrowStore<Item = u64>>(
-    column: &mut RankSelect<C, V>,
-    pattern: &[u64],
-) {
-    for w in pattern {
-        let _ = column.push_bits(*w, 64);
-    }
-}
-
 // The number of ones, so that nothing that was done can be left out.
 fn ones<C: ReadStore<Item = u64>, V: ReadStore<Item = u64>>(column: &RankSelect<C, V>) -> usize {
     column.rank(column.len()).unwrap_or(0)
@@ -50,7 +29,9 @@ fn filled<'a>(
     pattern: &[u64],
 ) -> RankSelect<Lent<'a, u64>, Lent<'a, u64>> {
     let mut column = RankSelect::new(Lent::new(counts, 0), Lent::new(words, 0));
-    push_groups(&mut column, pattern);
+    for w in pattern {
+        let _ = column.push_bits(*w, 64);
+    }
     column
 }
 
@@ -62,7 +43,9 @@ pub extern "C" fn rumbykai_push(
     n: usize,
 ) -> usize {
     let mut column = RankSelect::new(Lent::new(counts, 0), Lent::new(words, 0));
-    push_each(&mut column, pattern, n);
+    for i in 0..n {
+        let _ = column.push(pattern_bit(pattern, i));
+    }
     ones(&column)
 }
 
@@ -75,8 +58,7 @@ pub extern "C" fn rumbykai_push_bits(
     ones(&filled(counts, words, pattern))
 }
 
-// The sum of the ranks at some places, of the bits of a pattern. What is timed stands in each function as it
-// is: a call through a closure would be timed too.
+// The sum of the ranks at some places, of the bits of a pattern.
 #[unsafe(no_mangle)]
 pub extern "C" fn rumbykai_rank(
     counts: &mut [u64],
@@ -85,13 +67,10 @@ pub extern "C" fn rumbykai_rank(
     places: &[u64],
 ) -> u64 {
     let column = filled(counts, words, pattern);
-    let mut sum = 0u64;
-    for p in places {
-        if let Ok(n) = column.rank(*p as usize) {
-            sum = sum.wrapping_add(n as u64);
-        }
-    }
-    sum
+    places
+        .iter()
+        .map(|p| column.rank(*p as usize).unwrap_or(0) as u64)
+        .fold(0, u64::wrapping_add)
 }
 
 // The sum of the places of some ones.
@@ -103,41 +82,14 @@ pub extern "C" fn rumbykai_select(
     ranks: &[u64],
 ) -> u64 {
     let column = filled(counts, words, pattern);
-    let mut sum = 0u64;
-    for r in ranks {
-        if let Some(p) = column.select(*r) {
-            sum = sum.wrapping_add(p as u64);
-        }
-    }
-    sum
+    ranks
+        .iter()
+        .map(|r| column.select(*r).unwrap_or(0) as u64)
+        .fold(0, u64::wrapping_add)
 }
 
 // Appends ranges of a source, which are given as pairs of start and end, to a column that is cleared
-// before each round. Twice here, as for visits, and so are pushing and counting: a bit column is no payload
-// column, since it refuses an empty range past its source.
-fn append_ranges<
-    C: GrowStore<Item = u64>,
-    V: GrowStore<Item = u64>,
-    D: ReadStore<Item = u64>,
-    S: ReadStore<Item = u64>,
->(column: &mut RankSelect<C, V>, source: &RankSelect<D, S>, ranges: &[u64]) {
-    column.clear();
-    for range in ranges.chunks_exact(2) {
-        let _ = column.append(source, range[0] as usize, range[1] as usize);
-    }
-}
-
-fn append_rounds<
-    C: GrowStore<Item = u64>,
-    V: GrowStore<Item = u64>,
-    D: ReadStore<Item = u64>,
-    S: ReadStore<Item = u64>,
->(column: &mut RankSelect<C, V>, source: &RankSelect<D, S>, ranges: &[u64], rounds: usize) {
-    for _ in 0..rounds {
-        append_ranges(column, source, ranges);
-    }
-}
-
+// before each round.
 #[unsafe(no_mangle)]
 pub extern "C" fn rumbykai_append(
     counts: &mut [u64],
@@ -150,7 +102,12 @@ pub extern "C" fn rumbykai_append(
 ) -> usize {
     let source = filled(source_counts, source_words, pattern);
     let mut column = RankSelect::new(Lent::new(counts, 0), Lent::new(words, 0));
-    append_rounds(&mut column, &source, ranges, rounds);
+    for _ in 0..rounds {
+        column.clear();
+        for [start, end] in ranges.as_chunks::<2>().0 {
+            let _ = column.append(&source, *start as usize, *end as usize);
+        }
+    }
     ones(&column)
 }
 

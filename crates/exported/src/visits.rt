@@ -40,44 +40,6 @@ fn fill<C: Payload + Column<Item = Result<u64, u8>>>(column: &mut C, pattern: &[
     }
 }
 
-// The same, again and again.
-fn fill_rounds<C: Payload + Column<Item = Result<u64, u8>>>(
-    column: &mut C,
-    pattern: &[u64],
-    n: usize,
-    rounds: usize,
-) {
-    for _ in 0..rounds {
-        fill(column, pattern, n);
-    }
-}
-
-// The sum of what stands at some places.
-fn total<C: Column<Item = Result<u64, u8>>>(column: &C, places: &[u64]) -> u64 {
-    let mut sum = 0u64;
-    for p in places {
-        if let Ok(visit) = column.get(*p as usize) {
-            let told = visit.unwrap_or_else(|code| code as u64);
-            sum = sum.wrapping_add(told);
-        }
-    }
-    sum
-}
-
-// Appends ranges of a source, given as pairs of start and end, to a column that is cleared first.
-fn append_pairs<C: Payload>(column: &mut C, source: &C, ranges: &[u64]) {
-    column.clear();
-    for range in ranges.chunks_exact(2) {
-        let _ = column.append(source, range[0] as usize, range[1] as usize);
-    }
-}
-
-fn append_again<C: Payload>(column: &mut C, source: &C, ranges: &[u64], rounds: usize) {
-    for _ in 0..rounds {
-        append_pairs(column, source, ranges);
-    }
-}
-
 // The Ok entries, so that nothing that was done can be left out.
 fn marked<C: Variant>(column: &C) -> usize {
     column.rank(column.len()).unwrap_or(0)
@@ -94,7 +56,9 @@ pub extern "C" fn rumbykai_results_push(
     rounds: usize,
 ) -> usize {
     let mut column = no_visits(counts, words, times, codes);
-    fill_rounds(&mut column, pattern, n, rounds);
+    for _ in 0..rounds {
+        fill(&mut column, pattern, n);
+    }
     marked(&column)
 }
 
@@ -110,7 +74,11 @@ pub extern "C" fn rumbykai_results_get(
 ) -> u64 {
     let mut column = no_visits(counts, words, times, codes);
     fill(&mut column, pattern, n);
-    total(&column, places)
+    places
+        .iter()
+        .filter_map(|p| column.get(*p as usize).ok())
+        .map(|visit| visit.unwrap_or_else(|code| code as u64))
+        .fold(0, u64::wrapping_add)
 }
 
 // The buffers are cut in two, for a column and its source: so both are lent for one lifetime.
@@ -136,6 +104,11 @@ pub extern "C" fn rumbykai_results_append(
     let mut source = no_visits(source_counts, source_words, source_times, source_codes);
     fill(&mut source, pattern, n);
     let mut column = no_visits(own_counts, own_words, own_times, own_codes);
-    append_again(&mut column, &source, ranges, rounds);
+    for _ in 0..rounds {
+        column.clear();
+        for [start, end] in ranges.as_chunks::<2>().0 {
+            let _ = column.append(&source, *start as usize, *end as usize);
+        }
+    }
     marked(&column)
 }

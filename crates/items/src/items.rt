@@ -6,6 +6,7 @@ ghost use Rattle.columns.proofs.Lists.{each_alone};
 ghost use Rattle.columns.proofs.Within.{within_begins, within_asks, within_third};
 
 use crate::kind::WordsKind;
+use columns::asking::{one_within, range_within};
 use columns::column::{Column, Payload};
 use columns::kind::{Kind, Plain};
 use refusals::fault::Fault;
@@ -42,7 +43,7 @@ impl<S: GrowStore, K: Plain<S::Item>> Items<S, K> {
 }
 
 // Adds items `start` to `end - 1` of a source to a store that has room for them.
-#[tactic(auto, using(columns::proofs::Lists::length_part))]
+#[tactic(auto, using(columns::proofs::Lists::length_part, columns::proofs::Lists::part_added))]
 fn add_range<S: GrowStore>(store: &mut S, source: &S, start: usize, end: usize)
     requires range { (start ≤ end) × (end ≤ length (S.ReadStore.list source.now)) }
     requires room { length (S.ReadStore.list store.old) + (end - start) ≤ S.GrowStore.room store.old }
@@ -89,27 +90,12 @@ impl<S: GrowStore, K: Plain<S::Item>> Payload for Items<S, K> {
 
     ghost third = { λ s xs ys f e. within_third (S.GrowStore.room s.store) xs ys f e };
 
-    #[tactic(auto, using(columns::proofs::Within::answer_over, columns::proofs::Within::answer_fits, columns::proofs::Within::one_more))]
     fn fits(&self, _x: S::Item) -> Result<(), Fault> {
-        let n = self.store.len();
-        if n >= self.store.capacity() {
-            return Err(Fault::Full(n));
-        }
-        Ok(())
+        one_within(self, self.store.capacity())
     }
 
     fn fits_range(&self, source: &Self, start: usize, end: usize) -> Result<(), Fault> {
-        if start >= end {
-            return Ok(());
-        }
-        if end > source.store.len() {
-            return Err(Fault::Past(end));
-        }
-        let n = self.store.len();
-        if end - start > self.store.capacity() - n {
-            return Err(Fault::Full(n));
-        }
-        Ok(())
+        range_within(self, source, self.store.capacity(), start, end)
     }
 
     fn push(&mut self, x: S::Item) -> Result<(), Fault> {

@@ -1,4 +1,5 @@
 ghost use Rattle.std.specs.Prelude.{◌≡◌, ℕ};
+ghost use Rattle.std.specs.Result.{result_map_both};
 ghost use Rattle.refusals.specs.Faults.{number_of, carried_by};
 ghost use Rattle.refusals.specs.declared.fault.Fault.TheVariants.{Outside, Past};
 ghost use Rattle.options.specs.declared.fault.OptionsFault.TheVariants.{Own, Somes};
@@ -47,12 +48,23 @@ impl<F: Refusal> Refusal for OptionsFault<F> {
     }
 }
 
-// A payload's fault, carried up by `?`.
-impl<F> From<F> for OptionsFault<F> {
-    ghost from_gives = { λ f r. r ≡ Somes f };
+// The marks' fault, carried up by `?`.
+impl<F> From<Fault> for OptionsFault<F> {
+    ghost from_gives = { λ f r. r ≡ Own f };
 
-    fn from(fault: F) -> OptionsFault<F> {
-        OptionsFault::Somes(fault)
+    fn from(fault: Fault) -> OptionsFault<F> {
+        OptionsFault::Own(fault)
+    }
+}
+
+// What the payload answered, its fault with its side, for `?` to carry up. By hand: `map_err` with a
+// variant of a generic fault is not covered by the borrow checker, see docs/DECISIONS.md.
+pub fn of_somes<X, F>(r: Result<X, F>) -> Result<X, OptionsFault<F>>
+    ensures { result ≡ result_map_both (λ x. x) Somes r }
+{
+    match r {
+        Ok(x) => Ok(x),
+        Err(f) => Err(OptionsFault::Somes(f)),
     }
 }
 

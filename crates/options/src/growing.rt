@@ -7,14 +7,13 @@ ghost use Rattle.columns.proofs.Marked.{marks_within};
 ghost use Rattle.options.specs.Limiting.{limited_held, limit_begins, limit_asks, limit_third};
 ghost use Rattle.std.proofs.Common.{rules};
 
-use crate::fault::OptionsFault;
+use crate::fault::{OptionsFault, of_somes};
 use crate::kind::OptionsKind;
 use crate::options::Options;
 use bits::rank_select::RankSelect;
 use columns::column::{Column, Payload};
 use columns::granted::{append_bits, append_items, push_bit, rank_in};
 use columns::kind::Kind;
-use refusals::fault::Fault;
 use refusals::refusal::Refusal;
 use words::reading::{GrowStore, ReadStore};
 
@@ -56,12 +55,9 @@ impl<T: Payload, C: GrowStore<Item = u64>, V: GrowStore<Item = u64>> Payload for
     ghost third = { λ s xs ys f e. limit_third (room_in C.GrowStore.own V.GrowStore.own s.indexes) (T.Payload.limit s.somes) (T.Payload.ask s.somes) T.Fault.Refusal.numbered (T.Payload.third s.somes) xs ys f e };
 
     fn fits(&self, x: Option<T::Item>) -> Result<(), OptionsFault<T::Fault>> {
-        let len = self.indexes.len();
-        if !self.indexes.has_room(len + 1) {
-            return Err(OptionsFault::Own(Fault::Full(len)));
-        }
+        self.indexes.room_for(1)?; // one mark, whichever the entry
         match x {
-            Some(v) => Ok(self.somes.fits(v)?),
+            Some(v) => of_somes(self.somes.fits(v)),
             None => Ok(()),
         }
     }
@@ -75,27 +71,18 @@ impl<T: Payload, C: GrowStore<Item = u64>, V: GrowStore<Item = u64>> Payload for
         if start >= end {
             return Ok(());
         }
-        if end > source.indexes.len() {
-            return Err(OptionsFault::Own(Fault::Past(end)));
-        }
-        let n = self.indexes.len();
-        if !self.indexes.has_room(n + (end - start)) {
-            return Err(OptionsFault::Own(Fault::Full(n)));
-        }
+        self.indexes.fits_range(&source.indexes, start, end)?;
         let first = rank_in(&source.indexes, start);
         let last = rank_in(&source.indexes, end);
-        Ok(self.somes.fits_range(&source.somes, first, last)?)
+        of_somes(self.somes.fits_range(&source.somes, first, last))
     }
 
     fn push(&mut self, x: Option<T::Item>) -> Result<(), OptionsFault<T::Fault>> {
-        let n = self.indexes.len();
-        if !self.indexes.has_room(n + 1) {
-            return Err(OptionsFault::Own(Fault::Full(n)));
-        }
+        self.indexes.room_for(1)?;
         // an arm ends with its own bit: the checker joins no branches in which `x` is held in part
         match x {
             Some(v) => {
-                self.somes.push(v)?;
+                of_somes(self.somes.push(v))?;
                 push_bit(&mut self.indexes, true);
                 Ok(())
             }

@@ -7,7 +7,7 @@ ghost use Rattle.columns.specs.Kinds.{Each};
 ghost use Rattle.columns.proofs.Marked.{marks_few};
 ghost use Rattle.options.specs.EntriesLemmas.{merge_length, somes_merge, each_entry};
 
-use crate::fault::OptionsFault;
+use crate::fault::{OptionsFault, of_somes};
 use crate::kind::OptionsKind;
 use bits::rank_select::RankSelect;
 use columns::column::{Column, Variant};
@@ -51,13 +51,9 @@ impl<T: Column, C: ReadStore<Item = u64>, V: ReadStore<Item = u64>> Column for O
 
     #[tactic(auto, using(columns::proofs::Marked::one_below, words::proofs::Got::got_outside, words::proofs::Got::got_there, crate::specs::EntriesLemmas::merge_length, crate::specs::EntriesLemmas::get_none, crate::specs::EntriesLemmas::get_some))]
     fn get(&self, i: usize) -> Result<Option<T::Item>, OptionsFault<T::Fault>> {
-        // by hand: `?` takes the payload's faults, and `map_err` with the variant is not covered
-        let some = match self.indexes.get(i) {
-            Ok(bit) => bit,
-            Err(f) => return Err(OptionsFault::Own(f)),
-        };
+        let some = self.indexes.get(i)?;
         if some {
-            let x = self.somes.get(rank_in(&self.indexes, i))?;
+            let x = of_somes(self.somes.get(rank_in(&self.indexes, i)))?;
             Ok(Some(x))
         } else {
             Ok(None)
@@ -68,11 +64,7 @@ impl<T: Column, C: ReadStore<Item = u64>, V: ReadStore<Item = u64>> Column for O
 impl<T: Column, C: ReadStore<Item = u64>, V: ReadStore<Item = u64>> Variant for Options<T, C, V> {
     #[tactic(auto, using(crate::specs::EntriesLemmas::marks_merge, crate::specs::EntriesLemmas::merge_length))]
     fn rank(&self, i: usize) -> Result<usize, OptionsFault<T::Fault>> {
-        // by hand, as in `get`
-        match self.indexes.rank(i) {
-            Ok(n) => Ok(n),
-            Err(f) => Err(OptionsFault::Own(f)),
-        }
+        Ok(self.indexes.rank(i)?)
     }
 
     #[tactic(auto, using(crate::specs::EntriesLemmas::marks_merge))]

@@ -1,2 +1,3 @@
+mod Parts
 mod Pushes
 mod Ranges

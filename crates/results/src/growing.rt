@@ -14,7 +14,6 @@ use bits::rank_select::RankSelect;
 use columns::column::{Column, Payload};
 use columns::granted::{append_bits, append_items, push_bit, rank_in};
 use columns::kind::Kind;
-use refusals::fault::Fault;
 use refusals::refusal::Refusal;
 use words::reading::{GrowStore, ReadStore};
 
@@ -68,18 +67,13 @@ impl<S: Payload, T: Payload, C: GrowStore<Item = u64>, V: GrowStore<Item = u64>>
         S.Fault.Refusal.numbered T.Fault.Refusal.numbered (S.Payload.third s.oks) (T.Payload.third s.errs) xs ys f e };
 
     fn fits(&self, x: Result<S::Item, T::Item>) -> Result<(), ResultsFault<S::Fault, T::Fault>> {
-        let len = self.indexes.len();
-        if !self.indexes.has_room(len + 1) {
-            return Err(ResultsFault::Own(Fault::Full(len)));
-        }
+        self.indexes.room_for(1)?; // one mark, whichever the entry
         match x {
             Ok(v) => of_oks(self.oks.fits(v)),
             Err(w) => of_errs(self.errs.fits(w)),
         }
     }
 
-    // The questions of the marks are those of `Options`, and so in `push`: their refusals become the faults
-    // of two types, so a text for both would be longer than the tests.
     fn fits_range(
         &self,
         source: &Self,
@@ -89,13 +83,7 @@ impl<S: Payload, T: Payload, C: GrowStore<Item = u64>, V: GrowStore<Item = u64>>
         if start >= end {
             return Ok(());
         }
-        if end > source.indexes.len() {
-            return Err(ResultsFault::Own(Fault::Past(end)));
-        }
-        let n = self.indexes.len();
-        if !self.indexes.has_room(n + (end - start)) {
-            return Err(ResultsFault::Own(Fault::Full(n)));
-        }
+        self.indexes.fits_range(&source.indexes, start, end)?;
         let first = rank_in(&source.indexes, start);
         let last = rank_in(&source.indexes, end);
         of_oks(self.oks.fits_range(&source.oks, first, last))?;
@@ -109,10 +97,7 @@ impl<S: Payload, T: Payload, C: GrowStore<Item = u64>, V: GrowStore<Item = u64>>
         &mut self,
         x: Result<S::Item, T::Item>,
     ) -> Result<(), ResultsFault<S::Fault, T::Fault>> {
-        let n = self.indexes.len();
-        if !self.indexes.has_room(n + 1) {
-            return Err(ResultsFault::Own(Fault::Full(n)));
-        }
+        self.indexes.room_for(1)?;
         match x {
             Ok(v) => {
                 of_oks(self.oks.push(v))?;

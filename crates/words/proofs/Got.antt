@@ -1,6 +1,5 @@
 -- Item i of a list, or none.
-use Rattle.std.proofs.Common.{◌≡◌, ℕ, zero, suc, ◌<◌, ◌≤◌, List, [], ◌∷◌, length, get_or, take, Ok, Err, refl, ◌∙◌, arith, length-take}
-use Rattle.std.proofs.lemmas.List.{get_or-take}
+use Rattle.std.proofs.Common.{◌≡◌, ℕ, zero, suc, ◌<◌, ◌≤◌, List, [], ◌∷◌, length, get_or, Ok, Err, refl, arith}
 use Rattle.words.specs.Words.{got}
 
 pub got_outside : {A F : Type 0} (f : F) (xs : List A) (i : ℕ) → length xs ≤ i → got f xs i ≡ Err f
@@ -12,13 +11,6 @@ pub got_inside : {A F : Type 0} (d : A) (f : F) (xs : List A) (i : ℕ) → i < 
 got_inside d f [] i h = let z : ⊥ = omega arith in elim z [ ]
 got_inside d f (x ∷ xs) zero h = refl
 got_inside d f (x ∷ xs) (suc i) h = got_inside d f xs i (omega arith)
-
--- the same of the first n items
-pub got_front : {A F : Type 0} (d : A) (f : F) (xs : List A) (n i : ℕ) → n ≤ length xs → i < n → got f (take n xs) i ≡ Ok (get_or xs i d)
-got_front d f xs n i h k = got_inside d f (take n xs) i (omega (arith, length-take n xs)) ∙ simp (get_or-take n xs i d k)
-
-pub got_behind : {A F : Type 0} (f : F) (xs : List A) (n i : ℕ) → n ≤ i → got f (take n xs) i ≡ Err f
-got_behind f xs n i h = got_outside f (take n xs) i (omega (arith, length-take n xs))
 
 -- the item there, at any default
 pub got_found : {A F : Type 0} (f : F) (xs : List A) (i : ℕ) → i < length xs → (x : A) × (got f xs i ≡ Ok x) × (get_or xs i x ≡ x)

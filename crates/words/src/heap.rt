@@ -2,7 +2,7 @@ ghost use Rattle.std.specs.Prelude.{◌≡◌, ℕ, ◌≤◌, min, [], length, 
 ghost use Rattle.std.specs.Vec.{vec_capacity};
 ghost use Rattle.words.specs.Words.{most};
 
-use crate::reading::{GrowStore, MOST, ReadStore};
+use crate::reading::{GrowStore, MOST, ReadStore, item_in};
 use refusals::fault::Fault;
 use std::alloc::{AllocError, Global};
 
@@ -38,9 +38,8 @@ impl ReadStore for HeapWords {
         self.words.len()
     }
 
-    #[tactic(auto, using(crate::proofs::Got::got_inside, crate::proofs::Got::got_outside))]
     fn item(&self, i: usize) -> Result<u64, Fault> {
-        self.words.get(i).copied().ok_or(Fault::Outside(i))
+        item_in(&self.words, i)
     }
 }
 

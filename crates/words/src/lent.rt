@@ -2,7 +2,7 @@ ghost use Rattle.std.specs.Prelude.{◌≡◌, ℕ, ◌≤◌, length, take};
 ghost use Rattle.words.specs.Words.{most, buffer_room, buffer_list};
 ghost use Rattle.std.proofs.Common.{arith, length-take};
 
-use crate::reading::{GrowStore, MOST, ReadStore};
+use crate::reading::{GrowStore, MOST, ReadStore, item_in};
 use refusals::fault::Fault;
 
 // A buffer handed in, of words, of bytes or of whatever a column holds: a column without memory of its own
@@ -36,13 +36,8 @@ impl<'a, T: Copy> ReadStore for Lent<'a, T> {
         self.used
     }
 
-    #[tactic(auto, using(crate::proofs::Got::got_front, crate::proofs::Got::got_behind))]
     fn item(&self, i: usize) -> Result<T, Fault> {
-        if i < self.used {
-            Ok(self.items[i])
-        } else {
-            Err(Fault::Outside(i))
-        }
+        item_in(&self.items[..self.used], i)
     }
 }
 

@@ -1,6 +1,6 @@
 ghost use Rattle.std.specs.Prelude.{◌≡◌};
 
-use crate::reading::ReadStore;
+use crate::reading::{ReadStore, item_in};
 use refusals::fault::Fault;
 
 // A read-only part of a store: it only reads.
@@ -27,8 +27,7 @@ impl<'a> ReadStore for Part<'a> {
         self.words.len()
     }
 
-    #[tactic(auto, using(crate::proofs::Got::got_inside, crate::proofs::Got::got_outside))]
     fn item(&self, i: usize) -> Result<u64, Fault> {
-        self.words.get(i).copied().ok_or(Fault::Outside(i))
+        item_in(self.words, i)
     }
 }

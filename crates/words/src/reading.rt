@@ -74,3 +74,11 @@ pub fn put_in<S: GrowStore>(s: &mut S, x: S::Item)
 {
     s.put(x).unwrap()
 }
+
+// Item `i` of a slice, which is the list of a store.
+#[tactic(auto, using(crate::proofs::Got::got_inside, crate::proofs::Got::got_outside))]
+pub(crate) fn item_in<T: Copy>(list: &[T], i: usize) -> Result<T, Fault>
+    ensures { result ≡ item_answer list.now i }
+{
+    list.get(i).copied().ok_or(Fault::Outside(i))
+}

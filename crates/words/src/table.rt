@@ -2,15 +2,15 @@ ghost use Rattle.std.specs.Prelude.{◌≡◌, ℕ, ◌≤◌, [], length, take}
 ghost use Rattle.words.specs.Words.{most};
 ghost use Rattle.std.proofs.Common.{arith, length-take, rules};
 
-use crate::reading::{GrowStore, ReadStore};
+use crate::reading::{GrowStore, ReadStore, item_in};
 use refusals::fault::Fault;
 
 // How many words a table holds.
 const PLACES: usize = 64;
 
 // A table of 64 words held by value and copied as one, which a vector is not; the first `used` are in use.
-// Of this size alone, as its name says. Its `put` is that of `Lent` but for the capacity: one text for both
-// would be a trait for two types.
+// Of this size alone, as its name says. Its `put` is that of `Lent` but for the capacity: one text for both,
+// over a slice and a count, is longer by the contract that it needs.
 #[derive(Clone, Copy)]
 pub struct Table64 {
     words: [u64; 64],
@@ -39,13 +39,8 @@ impl ReadStore for Table64 {
         self.used
     }
 
-    #[tactic(auto, using(crate::proofs::Got::got_front, crate::proofs::Got::got_behind))]
     fn item(&self, i: usize) -> Result<u64, Fault> {
-        if i < self.used {
-            Ok(self.words[i])
-        } else {
-            Err(Fault::Outside(i))
-        }
+        item_in(&self.words[..self.used], i)
     }
 }
 

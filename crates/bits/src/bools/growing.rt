@@ -1,14 +1,16 @@
 ghost use Rattle.std.specs.Prelude.{◌≡◌, ℕ, ◌+◌, ◌-◌, ◌^◌, ◌<◌, ◌≤◌, true, List, [], ◌∷◌, ◌++◌, length, Ok, Err, OnErr};
 ghost use Rattle.bitlaws.specs.Bits.{most_bits, low_bits};
-ghost use Rattle.bits.specs.Columns.{bits_in, fits_words, push_answer, push_list, lawful_group, group_answer, group_list, range_of, append_answer, append_list};
+ghost use Rattle.bits.specs.Columns.{bits_in, fits_words, push_answer, push_list, group_answer, group_list, range_of, append_answer, append_list};
 
 use crate::bools::Bools;
+use crate::group::Group;
 use crate::tail::{Tail, WORD};
 use refusals::fault::Fault;
 use words::reading::{GrowStore, MOST, ReadStore, put_in};
 
 impl<V: GrowStore<Item = u64>> Bools<V> {
     // No bits, over a store that is cleared.
+    #[tactic(auto, using(crate::proofs::Growing::empty_list))]
     pub fn new(mut values: V) -> Self
         ensures list { bits_in V.ReadStore result ≡ [] }
         ensures room { V.GrowStore.room result.values ≡ V.GrowStore.room values }
@@ -28,37 +30,35 @@ impl<V: GrowStore<Item = u64>> Bools<V> {
         n <= MOST && n / WORD <= self.values.capacity()
     }
 
-    // Whether `n` more bits are: refused with 3 where they are not.
+    // Whether there is room for `n` more bits: refused with 3 where there is not.
     fn room_for(&self, n: usize) -> Result<(), Fault>
-        requires { n ≤ most_bits }
         ensures { result ≡ push_answer (bits_in V.ReadStore self.now) (fits_words (length (bits_in V.ReadStore self.now) + n) (V.GrowStore.room self.now.values)) }
     {
         let len = self.len();
-        if self.has_room(len + n) {
+        if self.has_room(len.saturating_add(n)) {
             Ok(())
         } else {
             Err(Fault::Full(len))
         }
     }
 
-    // Adds a group of `count` bits, lowest first, for which there is room.
-    pub(crate) fn add_bits(&mut self, group: u64, count: usize)
-        requires group { (group < 2 ^ count) × (count ≤ 64) }
-        requires room { fits_words (length (bits_in V.ReadStore self.old) + count) (V.GrowStore.room self.old.values) ≡ true }
-        ensures list { bits_in V.ReadStore self.new ≡ bits_in V.ReadStore self.old ++ low_bits count group }
+    // Adds a group of bits for which there is room.
+    #[tactic(auto, using(crate::proofs::Growing::tail_list, crate::proofs::Growing::word_room, crate::proofs::Growing::word_list, crate::proofs::Growing::word_held))]
+    pub(crate) fn add_bits(&mut self, group: Group)
+        requires { fits_words (length (bits_in V.ReadStore self.old) + group.count) (V.GrowStore.room self.old.values) ≡ true }
+        ensures list { bits_in V.ReadStore self.new ≡ bits_in V.ReadStore self.old ++ low_bits group.count group.word }
         ensures room { V.GrowStore.room self.new.values ≡ V.GrowStore.room self.old.values }
     {
         let tail = self.tail;
-        if tail.bits + count < WORD {
-            self.tail = tail.with(group, count);
+        if tail.bits + group.count < WORD {
+            self.tail = tail.with(group);
         } else {
-            put_in(&mut self.values, tail.joined(group));
-            self.tail = tail.rest(group, count);
+            put_in(&mut self.values, tail.joined(group.word));
+            self.tail = tail.rest(group);
         }
     }
 
     // Adds a bit, refused with 3 where the limit would be passed.
-    #[tactic(auto, using(crate::proofs::Growing::bit_group))]
     pub fn push(&mut self, bit: bool) -> Result<(), Fault>
         ensures answer { result ≡ push_answer (bits_in V.ReadStore self.old) (fits_words (length (bits_in V.ReadStore self.old) + 1) (V.GrowStore.room self.old.values)) }
         ensures list { bits_in V.ReadStore self.new ≡ push_list (bits_in V.ReadStore self.old) (fits_words (length (bits_in V.ReadStore self.old) + 1) (V.GrowStore.room self.old.values)) (bit ∷ []) }
@@ -66,7 +66,7 @@ impl<V: GrowStore<Item = u64>> Bools<V> {
         ensures same { OnErr result (self.new ≡ self.old) }
     {
         self.room_for(1)?;
-        self.add_bits(bit as u64, 1);
+        self.add_bits(Group::one(bit));
         Ok(())
     }
 
@@ -78,15 +78,15 @@ impl<V: GrowStore<Item = u64>> Bools<V> {
         ensures room { V.GrowStore.room self.new.values ≡ V.GrowStore.room self.old.values }
         ensures same { OnErr result (self.new ≡ self.old) }
     {
-        if !is_group(group, count) {
-            return Err(Fault::Group(count));
-        }
+        let bits = Group::new(group, count)?;
         self.room_for(count)?;
-        self.add_bits(group, count);
+        self.add_bits(bits);
         Ok(())
     }
 
-    // Adds bits `start` to `end - 1` of a source, a word at a time, for which there is room.
+    // Adds bits `start` to `end - 1` of a source, a word at a time, for which there is room. A range is two
+    // numbers everywhere, as the rules speak of it, and no struct.
+    #[tactic(auto, using(bitlaws::proofs::Ranges::range_more))]
     pub(crate) fn add_range<S: ReadStore<Item = u64>>(
         &mut self,
         source: &Bools<S>,
@@ -100,7 +100,7 @@ impl<V: GrowStore<Item = u64>> Bools<V> {
     {
         for pos in (start..end).step_by(WORD) {
             let count = (end - pos).min(WORD);
-            self.add_bits(source.bits_at(pos, count), count);
+            self.add_bits(source.bits_at(pos, count));
         }
     }
 
@@ -126,22 +126,12 @@ impl<V: GrowStore<Item = u64>> Bools<V> {
     }
 
     // Leaves no bits.
+    #[tactic(auto, using(crate::proofs::Growing::empty_list))]
     pub fn clear(&mut self)
         ensures list { bits_in V.ReadStore self.new ≡ [] }
         ensures room { V.GrowStore.room self.new.values ≡ V.GrowStore.room self.old.values }
     {
         self.values.clear();
         self.tail = Tail::empty();
-    }
-}
-
-// Whether the count is at most 64, and no bit of the group is set at or above it.
-pub(crate) fn is_group(group: u64, count: usize) -> bool
-    ensures { result ≡ lawful_group group count }
-{
-    if count < WORD {
-        group >> count == 0
-    } else {
-        count == WORD
     }
 }

@@ -51,6 +51,7 @@ impl Cursor {
     }
 
     // The next one at or after the place, or none; the place is then behind it. For walking over all ones.
+    #[tactic(auto, using(bitlaws::proofs::Words::length_bits, crate::proofs::Bounds::first_bounds, crate::proofs::Hints::some_at, crate::proofs::Hints::some_in, crate::proofs::Hints::none_at))]
     pub fn next_one<C: ReadStore<Item = u64>, V: ReadStore<Item = u64>>(
         &mut self,
         column: &RankSelect<C, V>,
@@ -97,6 +98,7 @@ impl Cursor {
     }
 
     // Goes to a place, and counts the ones before it; false, and at the end, where there is no such place.
+    #[tactic(auto, using(crate::proofs::Bounds::rank_bound))]
     pub fn seek_to_pos<C: ReadStore<Item = u64>, V: ReadStore<Item = u64>>(
         &mut self,
         column: &RankSelect<C, V>,
@@ -122,6 +124,7 @@ impl Cursor {
 
     // Goes behind the one that `target` ones stand before, which it answers; none, and at the end, where
     // there is no such one.
+    #[tactic(auto, using(crate::proofs::Bounds::select_bounds))]
     pub fn seek_to_rank<C: ReadStore<Item = u64>, V: ReadStore<Item = u64>>(
         &mut self,
         column: &RankSelect<C, V>,
@@ -192,6 +195,7 @@ impl Cursor {
     }
 
     // The cursor behind the lowest one of what is left of a word in its block.
+    #[tactic(auto, using(crate::proofs::Hints::past_r, crate::proofs::Hints::in_word, crate::proofs::Hints::cleared))]
     fn behind(&self, word: u64, rest: u64) -> Self
         requires rest { rest ≡ above word (self.now.place - 64 * self.now.block) }
         requires some { rest ≢ 0 }
@@ -210,6 +214,7 @@ impl Cursor {
     }
 
     // The cursor at the end, with the ones of the whole words: what a seek past the last one leaves.
+    #[tactic(auto, using(crate::proofs::Bounds::rank_bound))]
     fn at_end<C: ReadStore<Item = u64>, V: ReadStore<Item = u64>>(
         &self,
         column: &RankSelect<C, V>,
@@ -236,6 +241,7 @@ fn word_in<C: ReadStore<Item = u64>, V: ReadStore<Item = u64>>(
 }
 
 // The first one in a block or behind it.
+#[tactic(auto, using(crate::proofs::Hints::first_or_none))]
 fn one_from<C: ReadStore<Item = u64>, V: ReadStore<Item = u64>>(
     column: &RankSelect<C, V>,
     block: usize,

@@ -1,15 +1,10 @@
-use Rattle.std.proofs.Common.{sym, arith}
+use Rattle.std.proofs.Common.{sym}
 use Rattle.bitlaws.specs.Bits.{low_bits}
-use Rattle.bitlaws.proofs.InWord.{ones_word}
-use Rattle.bitlaws.proofs.Selects.{select_some, select_none}
+use Rattle.bitlaws.proofs.Selects.{select_some}
 use Rattle.bits.specs.declared.in_word.Sought.{Sought}
 use Rattle.bits.specs.Halving.{Moved}
 use Rattle.bits.proofs.Halves.{then, placed}
 use Rattle.bits.proofs.in_word.select_in_word.Goals as goal
-
-pub returns-then-k-word : goal.returns-then-k-word
-returns-then-k-word c =
-    sym (select_none (low_bits 64 c.args.word) c.args.k (omega (arith, ones_word c.args.word c.ranges.word.fits, c.if-k-word.true)))
 
 pub returns : goal.returns
 returns c =

@@ -1,129 +1,76 @@
-use Rattle.std.proofs.Common.{◌≡◌, true, false, [], ◌∷◌, ◌++◌, length, Ok, Err, sym, refl, ap, ◌∙◌, ap₂, append-nil}
+use Rattle.std.proofs.Common.{◌≡◌, length, Err, sym, refl, ap, ◌∙◌}
 use Rattle.std.specs.Coded.{Coded-set, coded_ℕ}
 use Rattle.std.proofs.lemmas.Result.{err_from_is_err_and}
 use Rattle.bitlaws.specs.Bits.{ones_among}
-use Rattle.bits.specs.Columns.{column_bits, room_in}
-use Rattle.columns.proofs.Appends.{grown_by, on_refusal, refused_inside}
-use Rattle.options.specs.Entries.{somes, some_marks, merge}
+use Rattle.columns.proofs.Appends.{inner_ok, inner_err, on_refusal, refused_inside}
+use Rattle.options.specs.declared.fault.OptionsFault.TheVariants.{Somes}
+use Rattle.options.specs.Entries.{merge}
 use Rattle.options.specs.Limits.{limited, asked}
-use Rattle.options.specs.Limiting.{limit_asks}
-use Rattle.options.proofs.Pushes.{push_over, push_asked, push_held, push_merged, push_matched}
+use Rattle.options.specs.EntriesLemmas.{merged, matched}
+use Rattle.options.proofs.Parts.{parts}
+use Rattle.options.proofs.Pushes.{marks_refuse, some_asked, none_asked, list_after, some_held, none_held}
 use Rattle.options.proofs.growing.OptionsPayload.push.Goals as goal
 
-pub returns-then-not-has_room : goal.returns-then-not-has_room
-returns-then-not-has_room g c =
-    let s = c.args.self.now in
-    let room = room_in g.C.GrowStore g.V.GrowStore s.indexes in
-    let lim = g.T.Payload.limit s.somes in
-    let ask = g.T.Payload.ask s.somes in
-    let bs = column_bits g.V.ReadStore s.indexes in
-    let ss = g.T.Column.items s.somes in
-    let xs = merge bs ss in
-    let ys = xs ++ (c.args.x ∷ []) in
-    let told = push_over room lim ask bs ss s.many c.len-n.result c.len-n.ensures c.args.x c.if-not-has_room.ensures in
-    record {
-      answer = told;
-      list = grown_by (limited room lim) (asked room ask) xs ys _ (limit_asks room lim ask (g.met.T.Payload.asks s.somes) xs ys) told;
-      limit = refl;
-      ask = refl;
-      same = refl;
-    }
+pub returns-in_err-room_for-clause-answer : goal.returns-in_err-room_for-clause-answer
+returns-in_err-room_for-clause-answer g c =
+    let p = parts g.T.Payload g.C.GrowStore g.V.GrowStore g.met.T.Payload.asks g.met.T.Payload.holds c.args.self.now in
+    let e = err_from_is_err_and c.from_residual.result c.from_residual.ensures.1 in
+    e.1 ∙ ap Err e.2 ∙ marks_refuse p c.args.x _ c.in_err-room_for.ensures
 
-pub returns-in_err-push-in-Some : goal.returns-in_err-push-in-Some
-returns-in_err-push-in-Some g c =
+pub returns-in_err-room_for-clause-list : goal.returns-in_err-room_for-clause-list
+returns-in_err-room_for-clause-list g c =
+    let p = parts g.T.Payload g.C.GrowStore g.V.GrowStore g.met.T.Payload.asks g.met.T.Payload.holds c.args.self.now in
+    list_after p c.args.x _ (marks_refuse p c.args.x _ c.in_err-room_for.ensures) _ refl
+
+pub returns-in_err-of_somes-in-Some : goal.returns-in_err-of_somes-in-Some
+returns-in_err-of_somes-in-Some g c =
     let s = c.args.self.now in
-    let t = c.push.new.self in
-    let room = room_in g.C.GrowStore g.V.GrowStore s.indexes in
-    let lim = g.T.Payload.limit s.somes in
-    let ask = g.T.Payload.ask s.somes in
-    let bs = column_bits g.V.ReadStore s.indexes in
-    let ss = g.T.Column.items s.somes in
-    let v = c.in-Some.v in
-    let xs = merge bs ss in
-    let ys = xs ++ (c.args.x ∷ []) in
-    let inner = c.in_err-push-in-Some.ensures in
-    let p = err_from_is_err_and c.from_residual.result c.from_residual.ensures.1 in
-    let told = push_asked room lim ask bs ss s.many c.len-n.result c.len-n.ensures c.args.x (v ∷ []) (ap (λ x. somes (x ∷ [])) c.in-Some.is) c.if-not-has_room.ensures _ inner.answer in
-    let same : t ≡ s.somes = inner.same in
+    let p = parts g.T.Payload g.C.GrowStore g.V.GrowStore g.met.T.Payload.asks g.met.T.Payload.holds s in
+    let e = err_from_is_err_and c.from_residual-in_err-of_somes-in-Some.result c.from_residual-in_err-of_somes-in-Some.ensures.1 in
+    let inner = c.push.ensures in
+    let told = c.in_err-of_somes-in-Some.ensures ∙ some_asked p c.args.x c.in_ok-room_for.ensures c.in-Some.v c.in-Some.is c.push.result inner.answer in
+    let same = inner_err Somes _ c.push.result c.in_err-of_somes-in-Some.ensures inner.same in
     record {
-      answer = p.1 ∙ ap Err p.2 ∙ told;
-      list = ap (λ q. merge bs (g.T.Column.items q)) same ∙ grown_by (limited room lim) (asked room ask) xs ys _ (limit_asks room lim ask (g.met.T.Payload.asks s.somes) xs ys) told;
-      limit = ap (limited room) inner.limit;
-      ask = ap (asked room) inner.ask;
-      same = refused_inside (λ q. length (g.T.Column.items q) ≡ ones_among bs) (λ q m. record { indexes = s.indexes; somes = q; many = m }) (λ q. Coded-set coded_ℕ _ _) c.from_residual.result t s.somes _ s.many (on_refusal c.from_residual.result same);
+      answer = e.1 ∙ ap Err e.2 ∙ told;
+      list = ap (λ q. merge p.bs (g.T.Column.items q)) same ∙ list_after p c.args.x _ told _ refl;
+      limit = ap (λ l. limited p.room l) inner.limit;
+      ask = ap (λ a. asked p.room a) inner.ask;
+      same = refused_inside (λ q. length (g.T.Column.items q) ≡ ones_among p.bs) (λ q m. record { indexes = s.indexes; somes = q; many = m }) (λ q. Coded-set coded_ℕ _ _) _ c.push.new.self s.somes _ s.many (on_refusal _ same);
     }
 
 pub invariant_of-self-in-Some : goal.invariant_of-self-in-Some
 invariant_of-self-in-Some g c =
-    let s = c.args.self.now in
-    let lim = g.T.Payload.limit s.somes in
-    let ask = g.T.Payload.ask s.somes in
-    let ss = g.T.Column.items s.somes in
-    let v = c.in-Some.v in
-    let inner = c.in_ok-push-in-Some.ensures in
-    let more : g.T.Column.items c.push.new.self ≡ ss ++ (v ∷ []) = inner.list ∙ sym (grown_by lim ask ss (ss ++ (v ∷ [])) (Ok tt) (g.met.T.Payload.asks s.somes ss (ss ++ (v ∷ []))) inner.answer) in
-    let held = ap (λ x. somes (x ∷ [])) c.in-Some.is in
-    let mark = ap (λ x. some_marks (x ∷ [])) c.in-Some.is in
-    record { many = push_matched (room_in g.C.GrowStore g.V.GrowStore s.indexes) lim ask (column_bits g.V.ReadStore s.indexes) ss s.many c.len-n.result c.len-n.ensures c.args.x _ _ (v ∷ []) true c.push_bit.ensures.list more mark held }
+    let p = parts g.T.Payload g.C.GrowStore g.V.GrowStore g.met.T.Payload.asks g.met.T.Payload.holds c.args.self.now in
+    let done = inner_ok Somes _ c.push.result c.in_ok-of_somes-in-Some.ensures in
+    let a = some_held p c.args.x _ _ c.in-Some.v c.in-Some.is c.push_bit.ensures.list c.push.ensures.list (sym done ∙ c.push.ensures.answer) in
+    record { many = matched _ _ _ a.0 a.1 }
 
 pub invariant_of-self-in-None : goal.invariant_of-self-in-None
 invariant_of-self-in-None g c =
-    let s = c.args.self.now in
-    let ss = g.T.Column.items s.somes in
-    let held = ap (λ x. somes (x ∷ [])) c.in-None.is in
-    let mark = ap (λ x. some_marks (x ∷ [])) c.in-None.is in
-    record { many = push_matched (room_in g.C.GrowStore g.V.GrowStore s.indexes) (g.T.Payload.limit s.somes) (g.T.Payload.ask s.somes) (column_bits g.V.ReadStore s.indexes) ss s.many c.len-n.result c.len-n.ensures c.args.x _ _ [] false c.push_bit-in-None.ensures.list (sym (append-nil ss)) mark held }
+    let p = parts g.T.Payload g.C.GrowStore g.V.GrowStore g.met.T.Payload.asks g.met.T.Payload.holds c.args.self.now in
+    let a = none_held p c.args.x _ _ c.in-None.is c.push_bit-in-None.ensures.list refl in
+    record { many = matched _ _ _ a.0 a.1 }
 
-pub returns-in_ok-push-in-Some : goal.returns-in_ok-push-in-Some
-returns-in_ok-push-in-Some g c =
-    let s = c.args.self.now in
-    let room = room_in g.C.GrowStore g.V.GrowStore s.indexes in
-    let lim = g.T.Payload.limit s.somes in
-    let ask = g.T.Payload.ask s.somes in
-    let bs = column_bits g.V.ReadStore s.indexes in
-    let ss = g.T.Column.items s.somes in
-    let v = c.in-Some.v in
-    let x = c.args.x in
-    let xs = merge bs ss in
-    let ys = xs ++ (x ∷ []) in
-    let inner = c.in_ok-push-in-Some.ensures in
-    let marks = c.push_bit.ensures in
-    let law = g.met.T.Payload.asks s.somes in
-    let more : g.T.Column.items c.push.new.self ≡ ss ++ (v ∷ []) = inner.list ∙ sym (grown_by lim ask ss (ss ++ (v ∷ [])) (Ok tt) (law ss (ss ++ (v ∷ []))) inner.answer) in
-    let held = ap (λ x. somes (x ∷ [])) c.in-Some.is in
-    let mark = ap (λ x. some_marks (x ∷ [])) c.in-Some.is in
-    let told = push_asked room lim ask bs ss s.many c.len-n.result c.len-n.ensures x (v ∷ []) held c.if-not-has_room.ensures (Ok tt) inner.answer in
-    let e = push_merged room lim ask bs ss s.many c.len-n.result c.len-n.ensures x _ _ (v ∷ []) true marks.list more mark held in
-    record {
-      answer = told;
-      list = e ∙ grown_by (limited room lim) (asked room ask) xs ys (Ok tt) (limit_asks room lim ask law xs ys) told;
-      limit = ap₂ (λ r l. limited r l) marks.room inner.limit;
-      ask = ap₂ (λ r a. asked r a) marks.room inner.ask;
-      same = tt;
-    }
+pub returns-in_ok-of_somes-in-Some-clause-answer : goal.returns-in_ok-of_somes-in-Some-clause-answer
+returns-in_ok-of_somes-in-Some-clause-answer g c =
+    let p = parts g.T.Payload g.C.GrowStore g.V.GrowStore g.met.T.Payload.asks g.met.T.Payload.holds c.args.self.now in
+    c.in_ok-of_somes-in-Some.ensures ∙ some_asked p c.args.x c.in_ok-room_for.ensures c.in-Some.v c.in-Some.is c.push.result c.push.ensures.answer
 
-pub returns-in-None : goal.returns-in-None
-returns-in-None g c =
-    let s = c.args.self.now in
-    let room = room_in g.C.GrowStore g.V.GrowStore s.indexes in
-    let lim = g.T.Payload.limit s.somes in
-    let ask = g.T.Payload.ask s.somes in
-    let bs = column_bits g.V.ReadStore s.indexes in
-    let ss = g.T.Column.items s.somes in
-    let x = c.args.x in
-    let xs = merge bs ss in
-    let ys = xs ++ (x ∷ []) in
-    let marks = c.push_bit-in-None.ensures in
-    let law = g.met.T.Payload.asks s.somes in
-    let held = ap (λ x. somes (x ∷ [])) c.in-None.is in
-    let mark = ap (λ x. some_marks (x ∷ [])) c.in-None.is in
-    let fine = push_held room lim ask bs ss s.many c.len-n.result c.len-n.ensures x (law ss) (g.met.T.Payload.holds s.somes) in
-    let told = push_asked room lim ask bs ss s.many c.len-n.result c.len-n.ensures x [] held c.if-not-has_room.ensures (Ok tt) fine in
-    let e = push_merged room lim ask bs ss s.many c.len-n.result c.len-n.ensures x _ _ [] false marks.list (sym (append-nil ss)) mark held in
-    record {
-      answer = told;
-      list = e ∙ grown_by (limited room lim) (asked room ask) xs ys (Ok tt) (limit_asks room lim ask law xs ys) told;
-      limit = ap (λ r. limited r lim) marks.room;
-      ask = ap (λ r. asked r ask) marks.room;
-      same = tt;
-    }
+pub returns-in_ok-of_somes-in-Some-clause-list : goal.returns-in_ok-of_somes-in-Some-clause-list
+returns-in_ok-of_somes-in-Some-clause-list g c =
+    let p = parts g.T.Payload g.C.GrowStore g.V.GrowStore g.met.T.Payload.asks g.met.T.Payload.holds c.args.self.now in
+    let done = inner_ok Somes _ c.push.result c.in_ok-of_somes-in-Some.ensures in
+    let a = some_held p c.args.x _ _ c.in-Some.v c.in-Some.is c.push_bit.ensures.list c.push.ensures.list (sym done ∙ c.push.ensures.answer) in
+    let told = c.in_ok-of_somes-in-Some.ensures ∙ some_asked p c.args.x c.in_ok-room_for.ensures c.in-Some.v c.in-Some.is c.push.result c.push.ensures.answer in
+    list_after p c.args.x _ told _ (merged _ _ _ a.0 a.1)
+
+pub returns-in-None-clause-answer : goal.returns-in-None-clause-answer
+returns-in-None-clause-answer g c =
+    let p = parts g.T.Payload g.C.GrowStore g.V.GrowStore g.met.T.Payload.asks g.met.T.Payload.holds c.args.self.now in
+    none_asked p c.args.x c.in_ok-room_for.ensures c.in-None.is
+
+pub returns-in-None-clause-list : goal.returns-in-None-clause-list
+returns-in-None-clause-list g c =
+    let p = parts g.T.Payload g.C.GrowStore g.V.GrowStore g.met.T.Payload.asks g.met.T.Payload.holds c.args.self.now in
+    let a = none_held p c.args.x _ _ c.in-None.is c.push_bit-in-None.ensures.list refl in
+    list_after p c.args.x _ (none_asked p c.args.x c.in_ok-room_for.ensures c.in-None.is) _ (merged _ _ _ a.0 a.1)

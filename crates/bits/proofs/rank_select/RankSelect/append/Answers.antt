@@ -1,8 +1,0 @@
-use Rattle.std.proofs.Common.{arith}
-use Rattle.bitlaws.proofs.Words.{length_bits}
-use Rattle.bits.proofs.rank_select.RankSelect.append.Goals as goal
-
-pub room_for-requires : goal.room_for-requires
-room_for-requires g c =
-    let o = c.args.source.now.values in
-    omega (arith, c.saturating_sub.ensures, c.len.ensures, length_bits (g.S.ReadStore.list o.values) o.tail.word o.tail.bits, o.held.small)
