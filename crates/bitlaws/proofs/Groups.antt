@@ -1,6 +1,5 @@
 -- A group of bits behind a tail: n bits of the number a above the k bits of t.
-use Rattle.std.proofs.Common.{◌≡◌, ℕ, zero, suc, ◌+◌, ◌-◌, ◌*◌, ◌/◌, ◌%◌, ◌^◌, ◌<◌, ◌≤◌, Bool, true, false, cond, List, [], ◌∷◌, ◌++◌, length, sym, refl, ap, ◌∙◌, ⊎_elim, lt_of_lt_of_le, add-zero, mod-eq_of_lt, arith, pow_mono}
-use Rattle.std.proofs.Math.Nat.{div-eq_of_lt}
+use Rattle.std.proofs.Common.{◌≡◌, ℕ, zero, suc, ◌+◌, ◌-◌, ◌*◌, ◌/◌, ◌%◌, ◌^◌, ◌<◌, ◌≤◌, Bool, true, false, cond, List, [], ◌∷◌, ◌++◌, length, sym, refl, ⊎_elim, lt_of_lt_of_le, add-zero, mod-eq_of_lt, arith, pow_mono}
 use Rattle.std.specs.Int.Bits.{bit_and, and_mask, bit_or, block_half, block_odd, or_shifted_r}
 use Rattle.std.proofs.Math.Pow.{high, low, split}
 use Rattle.std.proofs.lemmas.Nat.{one_shl, pow-add, pow_pos, shr-shr, mod-pow-add, shr_below, mul-add-lt}

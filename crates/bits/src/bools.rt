@@ -78,8 +78,8 @@ impl<V: ReadStore<Item = u64>> Bools<V> {
         count
     }
 
-    // The word with the one that `rank` ones stand before, or the tail's number, from the ones in the
-    // first `start` words on; and the ones before it. No option for the tail: it is the word behind the
+    // The number of the word with the one that `rank` ones stand before, from the ones in the first `start`
+    // words on, or the tail's; and the ones before it. No option for the tail: it is the word behind the
     // last, which `word` reads by that number.
     #[tactic(auto, using(bitlaws::proofs::Words::length_bits, bitlaws::proofs::Words::rank_word, bitlaws::proofs::Words::rank_le, crate::proofs::Reading::few_ones))]
     pub(crate) fn word_with(&self, rank: u64, start: usize, mut count: u64) -> (usize, u64)

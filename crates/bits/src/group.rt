@@ -6,7 +6,8 @@ ghost use Rattle.bits.specs.Columns.{lawful_group};
 use crate::tail::WORD;
 use refusals::fault::Fault;
 
-// The `count` lowest bits of a word, lowest first: 0 to 64, and none is set at or above them.
+// The `count` lowest bits of a word, lowest first: 0 to 64, and none is set at or above them. Beside `Tail`,
+// which has at most 63: one type over the bound would give both a number for a name.
 #[derive(Clone, Copy)]
 pub struct Group {
     pub word: u64,

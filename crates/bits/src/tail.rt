@@ -55,7 +55,7 @@ impl Tail {
         }
     }
 
-    // The tail behind the word that such a group has filled.
+    // The tail behind the word that a group fills.
     #[tactic(auto, using(bitlaws::proofs::Groups::rest_lt))]
     pub fn rest(&self, group: Group) -> Self
         requires { 64 ≤ self.now.bits + group.count }

@@ -23,6 +23,21 @@ pub fn rank_in<C: ReadStore<Item = u64>, V: ReadStore<Item = u64>>(
     bits.rank(i).unwrap()
 }
 
+// The ones of a bit column below either end of a range within it: where the items of the marked entries
+// of that range stand.
+pub fn ranks_in<C: ReadStore<Item = u64>, V: ReadStore<Item = u64>>(
+    bits: &RankSelect<C, V>,
+    start: usize,
+    end: usize,
+) -> (usize, usize)
+    requires { (start ≤ length (column_bits V.ReadStore bits.now)) × (end ≤ length (column_bits V.ReadStore bits.now)) }
+    ensures first { result.0 ≡ rank_of (column_bits V.ReadStore bits.now) start }
+    ensures last { result.1 ≡ rank_of (column_bits V.ReadStore bits.now) end }
+    ensures below { (result.0 ≤ start) × (result.1 ≤ end) }
+{
+    (rank_in(bits, start), rank_in(bits, end))
+}
+
 // Adds a bit for which there is room.
 pub fn push_bit<C: GrowStore<Item = u64>, V: GrowStore<Item = u64>>(
     bits: &mut RankSelect<C, V>,

@@ -21,6 +21,7 @@ fn main(rt: HostRuntime) -> io::Result<()> {
     if text.len() > LONGEST {
         return println!(rt; "the plan is too long: byte {LONGEST} is one too many");
     }
+    // Room for as many doors as a plan may have bytes: a count for 1,024, and a word for 64.
     let counts = HeapWords::new(rt.alloc(), LONGEST / 1024)?;
     let values = HeapWords::new(rt.alloc(), LONGEST / 64)?;
     let mut doors = RankSelect::new(counts, values);

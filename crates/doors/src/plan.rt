@@ -50,7 +50,7 @@ impl fmt::Display for Trouble {
     }
 }
 
-// Adds the doors of a plan to a column.
+// Adds the doors of a plan to a column, up to the first byte that is no mark or that finds no room.
 pub fn note_doors<C: GrowStore<Item = u64>, V: GrowStore<Item = u64>>(
     text: &[u8],
     doors: &mut RankSelect<C, V>,
@@ -58,9 +58,7 @@ pub fn note_doors<C: GrowStore<Item = u64>, V: GrowStore<Item = u64>>(
     ensures { Noted text.now (column_bits V.ReadStore doors.old) result (column_bits V.ReadStore doors.new) }
 {
     for (at, byte) in text.iter().enumerate() {
-        let Ok(mark) = Mark::try_from(*byte) else {
-            return Err(Trouble::Strange(at));
-        };
+        let mark = Mark::try_from(*byte).map_err(|_| Trouble::Strange(at))?;
         match mark {
             Mark::Door(bit) => doors
                 .push(bit)

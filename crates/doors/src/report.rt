@@ -2,11 +2,11 @@ use bits::rank_select::RankSelect;
 use std::io;
 use words::reading::ReadStore;
 
-// How far apart the places are that the report counts up to.
+// How many doors lie between two counts of the report.
 const STRIDE: usize = 64;
 
-// Prints how many doors there are and were reached, the number reached before every 64th place, and
-// the places of the missed ones.
+// Prints how many doors there are, how many of them were reached, in all and before every 64th door, and
+// which were missed.
 pub fn print_report<C: ReadStore<Item = u64>, V: ReadStore<Item = u64>>(
     rt: &impl Print,
     doors: &RankSelect<C, V>,

@@ -119,7 +119,8 @@ pub fn stray_walks<C: ReadStore<Item = u64>, V: ReadStore<Item = u64>>(
     Ok(wrong)
 }
 
-// The number of the refusal of a store, or 0: the tests tell refusals by number, as the rules do.
+// The number of the refusal of a store, or 0. Refusals of changed words are counted by it, whatever they
+// carry, and the tests of stores compare it; the other tests compare the refusals themselves.
 pub fn number_of(answer: Result<CheckedStore<'_>, Fault>) -> u32 {
     answer.err().map_or(0, |fault| fault.number())
 }

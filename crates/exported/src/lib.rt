@@ -17,7 +17,8 @@ pub(crate) fn pattern_bit(pattern: &[u64], i: usize) -> bool {
     (pattern[(i / 64) % pattern.len()] >> (i % 64)) & 1 == 1
 }
 
-// The number of ones, so that nothing that was done can be left out.
+// The number of ones: answered, so that the compiler can't leave the work out. It stands beside `marked` of
+// payload columns: a bit column is none, so there is no trait over both.
 fn ones<C: ReadStore<Item = u64>, V: ReadStore<Item = u64>>(column: &RankSelect<C, V>) -> usize {
     column.rank(column.len()).unwrap_or(0)
 }
@@ -102,6 +103,8 @@ pub extern "C" fn rumbykai_append(
 ) -> usize {
     let source = filled(source_counts, source_words, pattern);
     let mut column = RankSelect::new(Lent::new(counts, 0), Lent::new(words, 0));
+    // This loop stands here and for visits: a bit column refuses an empty range past its source, so it is no payload
+    // column, and a closure over the column isn't covered by the borrow checker.
     for _ in 0..rounds {
         column.clear();
         for [start, end] in ranges.as_chunks::<2>().0 {

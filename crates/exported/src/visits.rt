@@ -40,7 +40,8 @@ fn fill<C: Payload + Column<Item = Result<u64, u8>>>(column: &mut C, pattern: &[
     }
 }
 
-// The Ok entries, so that nothing that was done can be left out.
+// The number of Ok entries: answered, so that the compiler can't leave the work out. It stands beside `ones`
+// of bit columns: they are no payload columns, so there is no trait over both.
 fn marked<C: Variant>(column: &C) -> usize {
     column.rank(column.len()).unwrap_or(0)
 }
@@ -81,6 +82,12 @@ pub extern "C" fn rumbykai_results_get(
         .fold(0, u64::wrapping_add)
 }
 
+// A buffer cut in two.
+fn halves<T>(buffer: &mut [T]) -> (&mut [T], &mut [T]) {
+    let half = buffer.len() / 2;
+    buffer.split_at_mut(half)
+}
+
 // The buffers are cut in two, for a column and its source: so both are lent for one lifetime.
 #[unsafe(no_mangle)]
 pub extern "C" fn rumbykai_results_append(
@@ -93,17 +100,15 @@ pub extern "C" fn rumbykai_results_append(
     ranges: &[u64],
     rounds: usize,
 ) -> usize {
-    let half = counts.len() / 2;
-    let (own_counts, source_counts) = counts.split_at_mut(half);
-    let half = words.len() / 2;
-    let (own_words, source_words) = words.split_at_mut(half);
-    let half = times.len() / 2;
-    let (own_times, source_times) = times.split_at_mut(half);
-    let half = codes.len() / 2;
-    let (own_codes, source_codes) = codes.split_at_mut(half);
+    let (own_counts, source_counts) = halves(counts);
+    let (own_words, source_words) = halves(words);
+    let (own_times, source_times) = halves(times);
+    let (own_codes, source_codes) = halves(codes);
     let mut source = no_visits(source_counts, source_words, source_times, source_codes);
     fill(&mut source, pattern, n);
     let mut column = no_visits(own_counts, own_words, own_times, own_codes);
+    // This loop stands here and for bits: a bit column refuses an empty range past its source, so it is no payload
+    // column, and a closure over the column isn't covered by the borrow checker.
     for _ in 0..rounds {
         column.clear();
         for [start, end] in ranges.as_chunks::<2>().0 {

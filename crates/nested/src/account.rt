@@ -1,11 +1,9 @@
-ghost use Rattle.std.specs.Prelude.{◌≡◌};
-
 use columns::column::{Column, Payload, Variant};
 use columns::kind::Kind;
 use refusals::refusal::Refusal;
 use std::{fmt, io};
 
-// What a call answered.
+// Prints what a call answered.
 pub fn report<F: fmt::Display + Drop, R: Print>(
     rt: &R,
     call: &str,
@@ -17,7 +15,7 @@ pub fn report<F: fmt::Display + Drop, R: Print>(
     }
 }
 
-// Pushes entries one by one, and tells each refusal.
+// Pushes entries one by one, and prints each refusal.
 pub fn push_each<C: Payload, R: Print>(
     rt: &R,
     column: &mut C,
@@ -34,7 +32,8 @@ where
     Ok(())
 }
 
-// The entries of a column, how many are marked, and where the first of those stands.
+// Prints how many entries a column has and how many are marked, each entry and the refusal past the last,
+// and where the first marked one stands.
 pub fn tell<C: Variant, R: Print>(rt: &R, title: &str, column: &C) -> io::Result<()>
 where
     C::Item: fmt::Debug,

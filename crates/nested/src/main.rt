@@ -1,5 +1,5 @@
-// Visits in nested columns: made over tables, lent buffers and words in memory, joined by ranges, with
-// every refusal in words.
+// Visits in nested columns, over tables, lent buffers and words in memory: pushed one by one, joined by
+// ranges, and printed with every refusal in words.
 #![tactic(auto)]
 
 use account::{push_each, report, tell};
@@ -63,7 +63,8 @@ fn perhaps_a_time(rt: &HostRuntime) -> io::Result<()> {
     tell(rt, "cleared", &route)
 }
 
-// Reached, missed or still open: results within options, over words in memory that was reserved.
+// Reached, missed or still open: results within options, over words in memory that is reserved when the
+// columns are made. The codes stand in a lent buffer.
 fn open_reached_or_missed(rt: &HostRuntime) -> io::Result<()> {
     let heap = rt.alloc();
     let mut codes = [0u8; 8];
@@ -92,7 +93,8 @@ fn open_reached_or_missed(rt: &HostRuntime) -> io::Result<()> {
     tell(rt, "open, reached or missed, over words in memory", &month)
 }
 
-// The same in tables alone but for the codes, joined out of two columns.
+// The same in tables, and the codes in lent buffers: ranges of one column are appended to another, which
+// has room for one code.
 fn open_joined(rt: &HostRuntime) -> io::Result<()> {
     let mut codes = [0u8; 8];
     let mut joined_codes = [0u8; 1];

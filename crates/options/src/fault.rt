@@ -57,15 +57,12 @@ impl<F> From<Fault> for OptionsFault<F> {
     }
 }
 
-// What the payload answered, its fault with its side, for `?` to carry up. By hand: `map_err` with a
-// variant of a generic fault is not covered by the borrow checker, see docs/DECISIONS.md.
+// What the payload answered, its fault with its side, for `?` to carry up. The marks' fault needs no such
+// call, since it has a type of its own.
 pub fn of_somes<X, F>(r: Result<X, F>) -> Result<X, OptionsFault<F>>
     ensures { result ≡ result_map_both (λ x. x) Somes r }
 {
-    match r {
-        Ok(x) => Ok(x),
-        Err(f) => Err(OptionsFault::Somes(f)),
-    }
+    r.map_err(OptionsFault::Somes)
 }
 
 impl<F: fmt::Display> fmt::Display for OptionsFault<F> {

@@ -12,7 +12,7 @@ use crate::kind::OptionsKind;
 use crate::options::Options;
 use bits::rank_select::RankSelect;
 use columns::column::{Column, Payload};
-use columns::granted::{append_bits, append_items, push_bit, rank_in};
+use columns::granted::{append_bits, append_items, push_bit, ranks_in};
 use columns::kind::Kind;
 use refusals::refusal::Refusal;
 use words::reading::{GrowStore, ReadStore};
@@ -56,6 +56,7 @@ impl<T: Payload, C: GrowStore<Item = u64>, V: GrowStore<Item = u64>> Payload for
 
     fn fits(&self, x: Option<T::Item>) -> Result<(), OptionsFault<T::Fault>> {
         self.indexes.room_for(1)?; // one mark, whichever the entry
+        // no `map_or`: the proof would have to open its closure
         match x {
             Some(v) => of_somes(self.somes.fits(v)),
             None => Ok(()),
@@ -72,8 +73,7 @@ impl<T: Payload, C: GrowStore<Item = u64>, V: GrowStore<Item = u64>> Payload for
             return Ok(());
         }
         self.indexes.fits_range(&source.indexes, start, end)?;
-        let first = rank_in(&source.indexes, start);
-        let last = rank_in(&source.indexes, end);
+        let (first, last) = ranks_in(&source.indexes, start, end);
         of_somes(self.somes.fits_range(&source.somes, first, last))
     }
 
@@ -103,8 +103,7 @@ impl<T: Payload, C: GrowStore<Item = u64>, V: GrowStore<Item = u64>> Payload for
         if start >= end {
             return Ok(());
         }
-        let first = rank_in(&source.indexes, start);
-        let last = rank_in(&source.indexes, end);
+        let (first, last) = ranks_in(&source.indexes, start, end);
         append_items(&mut self.somes, &source.somes, first, last);
         append_bits(&mut self.indexes, &source.indexes, start, end);
         Ok(())

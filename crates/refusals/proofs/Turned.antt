@@ -1,7 +1,7 @@
 -- What an answer was before its refusal was turned into another, as by `map_err`.
-use Rattle.std.proofs.Common.{◌≡◌, Ok, Err, Result, is_ok, refl, sym, ap, ◌∙◌, subst}
+use Rattle.std.proofs.Common.{◌≡◌, Ok, Err, Result, is_ok, sym, ap, ◌∙◌}
 use Rattle.std.proofs.lemmas.Bool.{true≢false}
-use Rattle.std.specs.Result.{MatchResult, IsErrAnd}
+use Rattle.std.specs.Result.{MatchResult}
 
 abbrev taken : {A F : Type 0} → A → Result A F → A
 taken d (Ok x) = x

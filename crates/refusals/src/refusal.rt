@@ -17,15 +17,16 @@ pub trait Refusal: Sized {
 
     ghost carries: { Self → ℕ × ℕ };
 
-    // The number that the rules give a refusal: programs print it, no code decides by it.
+    // The number that the rules give a refusal: tests tell refusals by it, no column decides by it.
     fn number(&self) -> u32
         ensures { result ≡ numbered self.now };
 
-    // What the fault carries, 0 where it carries less than two numbers: for printing beside the number.
+    // What the fault carries, 0 where it carries less than two numbers: one shape for all faults, which
+    // tests compare beside the number.
     fn carried(&self) -> (u64, u64)
         ensures { result ≡ carries self.now };
 
-    // Refusal 2 of a range's end, made where no source is at hand.
+    // Refusal 2 of a range's end, for a caller that has no source to ask.
     fn past_end(end: usize) -> Self
         ensures { result ≡ past end };
 

@@ -2,7 +2,7 @@
 use Rattle.std.specs.Prelude.{◌≡◌, ℕ, ◌+◌, ◌<◌, ◌≤◌, Bool, true, false, ◌&&◌, List, ◌++◌, length, is_ok, Ok, Err, Result, ◌≢◌, refl}
 use Rattle.std.proofs.Common.{ap, sym, ◌∙◌, arith, length-append}
 use Rattle.std.proofs.lemmas.Bool.{and_parts}
-use Rattle.std.specs.Result.{result_map_both, OnErr}
+use Rattle.std.specs.Result.{result_map_both}
 use Rattle.refusals.specs.Faults.{number_of}
 use Rattle.refusals.specs.declared.fault.Fault.TheVariants.{Full}
 use Rattle.bitlaws.specs.Bits.{ones_among}

@@ -30,6 +30,7 @@ impl<F: Refusal, G: Refusal> Refusal for ResultsFault<F, G> {
 
     ghost second = { Prim.search rules };
 
+    // As in `OptionsFault`, with a side more: a match names its variants.
     fn number(&self) -> u32 {
         match self {
             ResultsFault::Own(f) => f.number(),
@@ -71,7 +72,8 @@ impl<F: fmt::Display, G: fmt::Display> fmt::Display for ResultsFault<F, G> {
 }
 
 // What the Ok payload answered, its fault with its side, for `?` to carry up. By hand, as `of_errs` below:
-// `map_err` with a variant of a generic fault is not covered by the borrow checker, see docs/DECISIONS.md.
+// `map_err` with a variant of a fault over two others is not covered by the borrow checker, see
+// docs/DECISIONS.md.
 pub fn of_oks<X, F, G>(r: Result<X, F>) -> Result<X, ResultsFault<F, G>>
     ensures { result ≡ result_map_both (λ x. x) Oks r }
 {

@@ -12,7 +12,7 @@ use crate::kind::ResultsKind;
 use crate::results::Results;
 use bits::rank_select::RankSelect;
 use columns::column::{Column, Payload};
-use columns::granted::{append_bits, append_items, push_bit, rank_in};
+use columns::granted::{append_bits, append_items, push_bit, ranks_in};
 use columns::kind::Kind;
 use refusals::refusal::Refusal;
 use words::reading::{GrowStore, ReadStore};
@@ -84,8 +84,7 @@ impl<S: Payload, T: Payload, C: GrowStore<Item = u64>, V: GrowStore<Item = u64>>
             return Ok(());
         }
         self.indexes.fits_range(&source.indexes, start, end)?;
-        let first = rank_in(&source.indexes, start);
-        let last = rank_in(&source.indexes, end);
+        let (first, last) = ranks_in(&source.indexes, start, end);
         of_oks(self.oks.fits_range(&source.oks, first, last))?;
         of_errs(
             self.errs
@@ -98,6 +97,7 @@ impl<S: Payload, T: Payload, C: GrowStore<Item = u64>, V: GrowStore<Item = u64>>
         x: Result<S::Item, T::Item>,
     ) -> Result<(), ResultsFault<S::Fault, T::Fault>> {
         self.indexes.room_for(1)?;
+        // an arm ends with its own bit, as in `Options`
         match x {
             Ok(v) => {
                 of_oks(self.oks.push(v))?;
@@ -122,8 +122,7 @@ impl<S: Payload, T: Payload, C: GrowStore<Item = u64>, V: GrowStore<Item = u64>>
         if start >= end {
             return Ok(());
         }
-        let first = rank_in(&source.indexes, start);
-        let last = rank_in(&source.indexes, end);
+        let (first, last) = ranks_in(&source.indexes, start, end);
         append_items(&mut self.oks, &source.oks, first, last);
         append_items(&mut self.errs, &source.errs, start - first, end - last);
         append_bits(&mut self.indexes, &source.indexes, start, end);

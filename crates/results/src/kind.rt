@@ -47,6 +47,7 @@ impl<I, J, K: Kind<I>, L: Kind<J>> Kind<Result<I, J>> for ResultsKind<K, L> {
         (K::slice_count() + L::slice_count() + MARK_SLICES).min(CUT)
     }
 
+    // Of the marks as in `Options`: a text for these two tests alone would be no shorter.
     fn element_size(k: usize) -> usize {
         if k >= CUT {
             return 0;

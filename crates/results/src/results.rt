@@ -70,6 +70,8 @@ impl<S: Column, T: Column, C: ReadStore<Item = u64>, V: ReadStore<Item = u64>> C
     }
 }
 
+// These ask the marks alone, as in `Options`: a text for both would be a trait for two types, of calls of
+// one line.
 impl<S: Column, T: Column, C: ReadStore<Item = u64>, V: ReadStore<Item = u64>> Variant
     for Results<S, T, C, V> {
     #[tactic(auto, using(crate::specs::EntriesLemmas::marks_merge, crate::specs::EntriesLemmas::merge_length))]

@@ -1,6 +1,7 @@
 ghost use Rattle.store.specs.Laws.{LayoutOne, LayoutPasses, LayoutSlices, CheckChecks, CheckedSlices, ValidateChecks};
 
 // What stands between slices, their layout and a checked store.
+#[tactic(auto, using(crate::proofs::Layouts::layout_one_lem, crate::proofs::Passing::layout_passes_lem, crate::proofs::Passing::layout_slices_lem, crate::proofs::Passed::check_checks_lem, crate::proofs::Passed::checked_slices_lem, crate::proofs::Passed::validate_checks_lem))]
 pub fn laws()
     // Two lists of slices with one layout are equal.
     ensures layout_one { LayoutOne }

@@ -36,13 +36,14 @@ impl<'a> RawStore<'a> {
     }
 
     // Refuses as check does, one slice for each size of an element, and with 13 the first slice that
-    // is no whole number of its elements; at a size of 0 no slice is. A list of too many sizes is
-    // refused before all else.
+    // is no whole number of its elements; at a size of 0 no slice is whole. A list of too many sizes
+    // is refused before all else.
     pub fn validate(self, sizes: &[usize]) -> Result<CheckedStore<'a>, Fault>
         ensures answer { result_map_both (λ _. tt) (λ f. f) result ≡ validate_answer self.entry.words.now sizes.now }
         ensures same { IfOk result (λ s. s.words.now ≡ self.entry.words.now) }
     {
         if sizes.len() > MOST_SLICES {
+            // The format's own numbers for too many sizes: 4,096 expected, 0 found.
             return Err(Fault::Slices(MOST_SLICES as u64 + 1, 0));
         }
         let checked = self.check(sizes.len())?;
@@ -66,6 +67,7 @@ impl<'a> CheckedStore<'a> {
         ensures tail { result.1 ≡ (slice_of self.now.words.now k).1 }
     {
         if k >= self.len() {
+            // The format's rule past the last slice: no words, and tail 0.
             return (Part::new(&[]), 0);
         }
         let from = self.place(k);
@@ -106,8 +108,8 @@ impl<'a> CheckedStore<'a> {
         gap.saturating_sub(padding)
     }
 
-    // Refuses with 13 the first slice that is no whole number of elements. With elements of no bytes
-    // none is.
+    // Refuses with 13 the first slice that is no whole number of elements. At a size of 0 no slice is
+    // whole.
     fn check_elements(&self, sizes: &[usize]) -> Result<(), Fault>
         requires { length sizes.now ≤ most_slices }
         ensures { result ≡ answered (ragged_fault self.now.words.now 0 sizes.now) }

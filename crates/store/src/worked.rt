@@ -7,7 +7,7 @@ use crate::store::RawStore;
 use refusals::fault::Fault;
 use words::reading::ReadStore;
 
-// What check answers, without the store.
+// What `check` answers, the store itself left out.
 fn told(words: &[u64], expected: usize) -> Result<(), Fault>
     ensures { result ≡ check_answer words.now expected }
 {
@@ -45,7 +45,7 @@ fn two_words(k: usize) -> (Result<u64, Fault>, Result<u64, Fault>, u8)
     (part.item(0), part.item(1), tail)
 }
 
-// What the slices of that store hold: the first two are empty.
+// What slices 1 to 3 of that store hold; slice 1 is empty.
 pub fn worked_slices() -> (
     (Result<u64, Fault>, Result<u64, Fault>, u8),
     (Result<u64, Fault>, Result<u64, Fault>, u8),

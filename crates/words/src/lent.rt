@@ -5,9 +5,9 @@ ghost use Rattle.std.proofs.Common.{arith, length-take};
 use crate::reading::{GrowStore, MOST, ReadStore, item_in};
 use refusals::fault::Fault;
 
-// A buffer handed in, of words, of bytes or of whatever a column holds: a column without memory of its own
-// asks for the length beside it. The buffer's length, cut to the most there may be, is the capacity; its
-// first `used` items are the list.
+// A buffer of words, of bytes or of whatever a column holds. The caller hands in the buffer and how much of
+// it is in use, which a buffer alone does not say; a column over it needs no memory of its own. The buffer's
+// length, cut to the most there may be, is the capacity; its first `used` items are the list.
 #[derive(Drop)]
 pub struct Lent<'a, T> {
     items: &'a mut [T],

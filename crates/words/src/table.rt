@@ -9,8 +9,8 @@ use refusals::fault::Fault;
 const PLACES: usize = 64;
 
 // A table of 64 words held by value and copied as one, which a vector is not; the first `used` are in use.
-// Of this size alone, as its name says. Its `put` is that of `Lent` but for the capacity: one text for both,
-// over a slice and a count, is longer by the contract that it needs.
+// Of this size alone, as its name says. Its `len`, `put` and `clear` are those of `Lent` but for the
+// capacity: one text for both, over a slice and a count, is longer by the contract that it needs.
 #[derive(Clone, Copy)]
 pub struct Table64 {
     words: [u64; 64],

@@ -12,11 +12,18 @@ use words::table::Table64;
 // A column over two tables. Its promises pin what a push leaves, so no answer is looked at here.
 pub type Column = RankSelect<Table64, Table64>;
 
+// No bits, over two tables.
+fn no_bits() -> Column
+    ensures { column_bits tabled result ≡ [] }
+{
+    RankSelect::new(Table64::new(), Table64::new())
+}
+
 // rank(0), select(0) and rank(1) of no bits.
 pub fn of_none() -> (Result<usize, Fault>, Option<usize>, Result<usize, Fault>)
     ensures { result ≡ (Ok 0, None, Err (Outside 1)) }
 {
-    let column = RankSelect::new(Table64::new(), Table64::new());
+    let column = no_bits();
     (column.rank(0), column.select(0), column.rank(1))
 }
 
@@ -29,7 +36,7 @@ pub fn of_three() -> (
 )
     ensures { result ≡ (Ok 1, Ok 2, Some 2, None) }
 {
-    let mut column = RankSelect::new(Table64::new(), Table64::new());
+    let mut column = no_bits();
     let _ = column.push(true);
     let _ = column.push(false);
     let _ = column.push(true);
@@ -45,7 +52,7 @@ pub fn of_three() -> (
 pub fn of_far_rank() -> Option<usize>
     ensures { result ≡ None }
 {
-    let mut column = RankSelect::new(Table64::new(), Table64::new());
+    let mut column = no_bits();
     let _ = column.push(true);
     column.select(4_294_967_296)
 }
@@ -66,7 +73,7 @@ pub fn counts_of_ones(n: usize) -> (usize, Result<u64, Fault>)
     requires { n ≤ 4096 }
     ensures { result ≡ (n / 1024, (if nat_lt 0 (n / 1024) then Ok 1024 else Err (Outside 0))) }
 {
-    let mut column = RankSelect::new(Table64::new(), Table64::new());
+    let mut column = no_bits();
     push_ones(&mut column, n);
     let counts = column.counts();
     (counts.len(), counts.item(0))
@@ -76,7 +83,7 @@ pub fn counts_of_ones(n: usize) -> (usize, Result<u64, Fault>)
 pub fn of_group() -> (Result<u64, Fault>, u64, usize)
     ensures { result ≡ (Ok 4611686018427387904, 1, 1) }
 {
-    let mut column = RankSelect::new(Table64::new(), Table64::new());
+    let mut column = no_bits();
     let _ = column.push_bits(0, 62);
     let _ = column.push_bits(5, 3);
     let values = column.values();
@@ -92,7 +99,7 @@ pub fn of_walk() -> (
 )
     ensures { result ≡ (Ok (Some 63), Ok (Some true), Ok (Some 129)) }
 {
-    let mut column = RankSelect::new(Table64::new(), Table64::new());
+    let mut column = no_bits();
     let _ = column.push_bits(1 << 63, 64);
     let _ = column.push_bits(1, 64);
     let _ = column.push_bits(2, 2);

@@ -42,7 +42,8 @@ impl<V: GrowStore<Item = u64>> Bools<V> {
         }
     }
 
-    // Adds a group of bits for which there is room.
+    // Adds a group of bits for which there is room. That is said by the contracts, here and elsewhere, and
+    // by no type: it ties a number to a column that changes.
     #[tactic(auto, using(crate::proofs::Growing::tail_list, crate::proofs::Growing::word_room, crate::proofs::Growing::word_list, crate::proofs::Growing::word_held))]
     pub(crate) fn add_bits(&mut self, group: Group)
         requires { fits_words (length (bits_in V.ReadStore self.old) + group.count) (V.GrowStore.room self.old.values) ≡ true }

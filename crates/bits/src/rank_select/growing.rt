@@ -87,8 +87,8 @@ impl<C: GrowStore<Item = u64>, V: GrowStore<Item = u64>> RankSelect<C, V> {
         self.values.add_bits(Group::one(bit));
     }
 
-    // Adds a bit, refused with 3 where the limit would be passed. Beside that of `Bools`: see `push_bits`.
-    // A hint to inline, since most calls end at the first test.
+    // Adds a bit, refused with 3 where the limit would be passed. Why beside that of `Bools`: see
+    // `push_bits`. A hint to inline, since most calls end at the first test.
     #[inline]
     #[tactic(auto, using(crate::proofs::Growing::pushed, crate::proofs::Growing::pushed_list, crate::proofs::Growing::fits_tail))]
     pub fn push(&mut self, bit: bool) -> Result<(), Fault>
@@ -98,7 +98,7 @@ impl<C: GrowStore<Item = u64>, V: GrowStore<Item = u64>> RankSelect<C, V> {
         ensures others { C.GrowStore.room self.new.counts ≡ C.GrowStore.room self.old.counts }
         ensures same { OnErr result (self.new ≡ self.old) }
     {
-        // no limit is passed then, and no count is due
+        // a bit that stays in the tail passes no limit, and no count is due
         if self.values.tail().bits < WORD - 1 {
             self.add_to_tail(bit);
             return Ok(());
@@ -109,8 +109,8 @@ impl<C: GrowStore<Item = u64>, V: GrowStore<Item = u64>> RankSelect<C, V> {
     }
 
     // Adds the `count` lowest bits of a group, lowest first: refused with 4 where the count is above 64 or
-    // a bit is set at or above it, then with 3. This, `push` and `append` are those of `Bools` under another
-    // limit, and counts follow: a text for both would be a trait for two types.
+    // a bit is set at or above it, then with 3. This, `room_for`, `push` and `append` are those of `Bools`
+    // under another limit, and counts follow: a text for both would be a trait for two types.
     pub fn push_bits(&mut self, group: u64, count: usize) -> Result<(), Fault>
         ensures answer { result ≡ group_answer (column_bits V.ReadStore self.old) (room_in C.GrowStore.own V.GrowStore.own self.old (length (column_bits V.ReadStore self.old) + count)) group count }
         ensures list { column_bits V.ReadStore self.new ≡ group_list (column_bits V.ReadStore self.old) (room_in C.GrowStore.own V.GrowStore.own self.old (length (column_bits V.ReadStore self.old) + count)) group count }
@@ -125,7 +125,7 @@ impl<C: GrowStore<Item = u64>, V: GrowStore<Item = u64>> RankSelect<C, V> {
     }
 
     // Adds bits `start` to `end - 1` of a source, a word at a time: refused with 2 where the end lies past
-    // the source, even for an empty range, then with 3. Beside that of `Bools`: see `push_bits`.
+    // the source, even for an empty range, then with 3. Why beside that of `Bools`: see `push_bits`.
     pub fn append<D: ReadStore<Item = u64>, S: ReadStore<Item = u64>>(
         &mut self,
         source: &RankSelect<D, S>,

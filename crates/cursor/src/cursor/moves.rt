@@ -139,16 +139,12 @@ impl Cursor {
         if target < self.count {
             return Err(Fault::Behind(target));
         }
-        match column.select(target) {
-            Some(q) => {
-                *self = self.at(q + 1, target + 1);
-                Ok(Some(q))
-            }
-            None => {
-                *self = self.at_end(column);
-                Ok(None)
-            }
+        let found = column.select(target);
+        match found {
+            Some(q) => *self = self.at(q + 1, target + 1),
+            None => *self = self.at_end(column),
         }
+        Ok(found)
     }
 
     // The column's length, which is the cursor's: refused with 5 where it is another.

@@ -6,5 +6,5 @@ use Rattle.worked.proofs.bit_columns.of_far_rank.Goals as goal
 pub returns : goal.returns
 unfolding select_of
 returns c =
-    let one = c.push.ensures.list ∙ ap (λ (bs : List Bool). push_list bs (fits (length bs + 1) 64 64) (true ∷ [])) c.new-column.ensures.list in
+    let one = c.push.ensures.list ∙ ap (λ (bs : List Bool). push_list bs (fits (length bs + 1) 64 64) (true ∷ [])) c.no_bits-column.ensures in
     c.select.ensures ∙ ap (λ (bs : List Bool). select_of bs 4294967296) one

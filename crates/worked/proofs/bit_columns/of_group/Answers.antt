@@ -10,10 +10,10 @@ pub returns : goal.returns
 returns c =
     let s = c.push_bits-2.new.self.values in
     let ws = tabled.list s.values in
-    let new = column_bits tabled c.new-column.result in
+    let new = column_bits tabled c.no_bits-column.result in
     let zeros = c.push_bits.ensures.list in
     let all : bits_of ws s.tail.word s.tail.bits ≡ bits_of (4611686018427387904 ∷ []) 1 1 =
-    c.push_bits-2.ensures.list ∙ ap (λ (x : List Bool). group_list x (fits (length x + 3) 64 64) 5 3) zeros ∙ after_groups new c.new-column.ensures.list in
+    c.push_bits-2.ensures.list ∙ ap (λ (x : List Bool). group_list x (fits (length x + 3) 64 64) 5 3) zeros ∙ after_groups new c.no_bits-column.ensures in
     let held = s.held in
     let there = c.values-values.ensures in
     let a : c.item.result ≡ Ok 4611686018427387904 =

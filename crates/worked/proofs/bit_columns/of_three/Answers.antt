@@ -6,7 +6,7 @@ use Rattle.worked.proofs.bit_columns.of_three.Goals as goal
 pub returns : goal.returns
 unfolding ones_among select_of
 returns c =
-    let one = c.push.ensures.list ∙ ap (λ (bs : List Bool). push_list bs (fits (length bs + 1) 64 64) (true ∷ [])) c.new-column.ensures.list in
+    let one = c.push.ensures.list ∙ ap (λ (bs : List Bool). push_list bs (fits (length bs + 1) 64 64) (true ∷ [])) c.no_bits-column.ensures in
     let two = c.push-2.ensures.list ∙ ap (λ (bs : List Bool). push_list bs (fits (length bs + 1) 64 64) (false ∷ [])) one in
     let three = c.push-3.ensures.list ∙ ap (λ (bs : List Bool). push_list bs (fits (length bs + 1) 64 64) (true ∷ [])) two in
     let a : c.rank.result ≡ Ok 1 = c.rank.ensures ∙ ap (λ (bs : List Bool). rank_answer bs 2) three in

@@ -7,25 +7,30 @@ use Rattle.options.specs.declared.fault.OptionsFault.TheVariants.{Somes}
 use Rattle.options.specs.Entries.{merge}
 use Rattle.options.specs.Limits.{limited, asked}
 use Rattle.options.specs.EntriesLemmas.{merged, matched}
-use Rattle.options.proofs.Parts.{parts}
+use Rattle.options.proofs.Parts.{Parts, parts}
 use Rattle.options.proofs.Pushes.{marks_refuse, some_asked, none_asked, list_after, some_held, none_held}
+use Rattle.options.specs.declared.options.Options.{Options}
+use Rattle.options.proofs.growing.OptionsPayload.push.Given.{Over}
 use Rattle.options.proofs.growing.OptionsPayload.push.Goals as goal
+
+abbrev of : (g : Over) → Options g.row.T.Denot g.row.C.Denot g.row.V.Denot g.row.T-Item.Denot g.row.T-Fault.Denot g.row.T-Kind.Denot g.T.Column g.T.Fault.Refusal g.T.Kind.Kind g.C.ReadStore g.V.ReadStore → Parts g.row.T-Item.Denot g.row.T-Fault.Denot
+of g = parts g.T.Payload g.C.GrowStore g.V.GrowStore g.met.T.Payload.asks g.met.T.Payload.holds
 
 pub returns-in_err-room_for-clause-answer : goal.returns-in_err-room_for-clause-answer
 returns-in_err-room_for-clause-answer g c =
-    let p = parts g.T.Payload g.C.GrowStore g.V.GrowStore g.met.T.Payload.asks g.met.T.Payload.holds c.args.self.now in
+    let p = of g c.args.self.now in
     let e = err_from_is_err_and c.from_residual.result c.from_residual.ensures.1 in
     e.1 ∙ ap Err e.2 ∙ marks_refuse p c.args.x _ c.in_err-room_for.ensures
 
 pub returns-in_err-room_for-clause-list : goal.returns-in_err-room_for-clause-list
 returns-in_err-room_for-clause-list g c =
-    let p = parts g.T.Payload g.C.GrowStore g.V.GrowStore g.met.T.Payload.asks g.met.T.Payload.holds c.args.self.now in
+    let p = of g c.args.self.now in
     list_after p c.args.x _ (marks_refuse p c.args.x _ c.in_err-room_for.ensures) _ refl
 
 pub returns-in_err-of_somes-in-Some : goal.returns-in_err-of_somes-in-Some
 returns-in_err-of_somes-in-Some g c =
     let s = c.args.self.now in
-    let p = parts g.T.Payload g.C.GrowStore g.V.GrowStore g.met.T.Payload.asks g.met.T.Payload.holds s in
+    let p = of g s in
     let e = err_from_is_err_and c.from_residual-in_err-of_somes-in-Some.result c.from_residual-in_err-of_somes-in-Some.ensures.1 in
     let inner = c.push.ensures in
     let told = c.in_err-of_somes-in-Some.ensures ∙ some_asked p c.args.x c.in_ok-room_for.ensures c.in-Some.v c.in-Some.is c.push.result inner.answer in
@@ -40,25 +45,25 @@ returns-in_err-of_somes-in-Some g c =
 
 pub invariant_of-self-in-Some : goal.invariant_of-self-in-Some
 invariant_of-self-in-Some g c =
-    let p = parts g.T.Payload g.C.GrowStore g.V.GrowStore g.met.T.Payload.asks g.met.T.Payload.holds c.args.self.now in
+    let p = of g c.args.self.now in
     let done = inner_ok Somes _ c.push.result c.in_ok-of_somes-in-Some.ensures in
     let a = some_held p c.args.x _ _ c.in-Some.v c.in-Some.is c.push_bit.ensures.list c.push.ensures.list (sym done ∙ c.push.ensures.answer) in
     record { many = matched _ _ _ a.0 a.1 }
 
 pub invariant_of-self-in-None : goal.invariant_of-self-in-None
 invariant_of-self-in-None g c =
-    let p = parts g.T.Payload g.C.GrowStore g.V.GrowStore g.met.T.Payload.asks g.met.T.Payload.holds c.args.self.now in
+    let p = of g c.args.self.now in
     let a = none_held p c.args.x _ _ c.in-None.is c.push_bit-in-None.ensures.list refl in
     record { many = matched _ _ _ a.0 a.1 }
 
 pub returns-in_ok-of_somes-in-Some-clause-answer : goal.returns-in_ok-of_somes-in-Some-clause-answer
 returns-in_ok-of_somes-in-Some-clause-answer g c =
-    let p = parts g.T.Payload g.C.GrowStore g.V.GrowStore g.met.T.Payload.asks g.met.T.Payload.holds c.args.self.now in
+    let p = of g c.args.self.now in
     c.in_ok-of_somes-in-Some.ensures ∙ some_asked p c.args.x c.in_ok-room_for.ensures c.in-Some.v c.in-Some.is c.push.result c.push.ensures.answer
 
 pub returns-in_ok-of_somes-in-Some-clause-list : goal.returns-in_ok-of_somes-in-Some-clause-list
 returns-in_ok-of_somes-in-Some-clause-list g c =
-    let p = parts g.T.Payload g.C.GrowStore g.V.GrowStore g.met.T.Payload.asks g.met.T.Payload.holds c.args.self.now in
+    let p = of g c.args.self.now in
     let done = inner_ok Somes _ c.push.result c.in_ok-of_somes-in-Some.ensures in
     let a = some_held p c.args.x _ _ c.in-Some.v c.in-Some.is c.push_bit.ensures.list c.push.ensures.list (sym done ∙ c.push.ensures.answer) in
     let told = c.in_ok-of_somes-in-Some.ensures ∙ some_asked p c.args.x c.in_ok-room_for.ensures c.in-Some.v c.in-Some.is c.push.result c.push.ensures.answer in
@@ -66,11 +71,11 @@ returns-in_ok-of_somes-in-Some-clause-list g c =
 
 pub returns-in-None-clause-answer : goal.returns-in-None-clause-answer
 returns-in-None-clause-answer g c =
-    let p = parts g.T.Payload g.C.GrowStore g.V.GrowStore g.met.T.Payload.asks g.met.T.Payload.holds c.args.self.now in
+    let p = of g c.args.self.now in
     none_asked p c.args.x c.in_ok-room_for.ensures c.in-None.is
 
 pub returns-in-None-clause-list : goal.returns-in-None-clause-list
 returns-in-None-clause-list g c =
-    let p = parts g.T.Payload g.C.GrowStore g.V.GrowStore g.met.T.Payload.asks g.met.T.Payload.holds c.args.self.now in
+    let p = of g c.args.self.now in
     let a = none_held p c.args.x _ _ c.in-None.is c.push_bit-in-None.ensures.list refl in
     list_after p c.args.x _ (none_asked p c.args.x c.in_ok-room_for.ensures c.in-None.is) _ (merged _ _ _ a.0 a.1)

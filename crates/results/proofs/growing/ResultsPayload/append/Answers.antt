@@ -1,53 +1,43 @@
 use Rattle.std.proofs.Common.{◌∙◌, arith}
 use Rattle.results.specs.EntriesLemmas.{merged, matched_ones, matched_zeros}
-use Rattle.results.proofs.Parts.{parts}
+use Rattle.results.proofs.Parts.{Parts, parts}
 use Rattle.results.proofs.Ranges.{granted_end, granted_marks, granted_oks, granted_errs, range_held, list_after}
+use Rattle.results.specs.declared.results.Results.{Results}
+use Rattle.results.proofs.growing.ResultsPayload.append.Given.{Over}
 use Rattle.results.proofs.growing.ResultsPayload.append.Goals as goal
 
-pub rank_in-first-requires : goal.rank_in-first-requires
-rank_in-first-requires g c =
-    let p = parts g.S.Payload g.T.Payload g.C.GrowStore g.V.GrowStore g.met.S.Payload.asks g.met.S.Payload.holds g.met.T.Payload.asks g.met.T.Payload.holds in
-    omega (arith, granted_end (p c.args.self.now) (p c.args.source.now) c.args.start c.args.end c.if-start-end.false c.in_ok-fits_range.ensures, c.if-start-end.false)
+abbrev of : (g : Over) → Results g.row.S.Denot g.row.T.Denot g.row.C.Denot g.row.V.Denot g.row.S-Item.Denot g.row.S-Fault.Denot g.row.S-Kind.Denot g.row.T-Item.Denot g.row.T-Fault.Denot g.row.T-Kind.Denot g.S.Column g.S.Fault.Refusal g.S.Kind.Kind g.T.Column g.T.Fault.Refusal g.T.Kind.Kind g.C.ReadStore g.V.ReadStore → Parts g.row.S-Item.Denot g.row.T-Item.Denot g.row.S-Fault.Denot g.row.T-Fault.Denot
+of g = parts g.S.Payload g.T.Payload g.C.GrowStore g.V.GrowStore g.met.S.Payload.asks g.met.S.Payload.holds g.met.T.Payload.asks g.met.T.Payload.holds
 
-pub rank_in-last-requires : goal.rank_in-last-requires
-rank_in-last-requires g c =
-    let p = parts g.S.Payload g.T.Payload g.C.GrowStore g.V.GrowStore g.met.S.Payload.asks g.met.S.Payload.holds g.met.T.Payload.asks g.met.T.Payload.holds in
-    granted_end (p c.args.self.now) (p c.args.source.now) c.args.start c.args.end c.if-start-end.false c.in_ok-fits_range.ensures
+pub ranks_in-first-requires : goal.ranks_in-first-requires
+ranks_in-first-requires g c =
+    let end = granted_end (of g c.args.self.now) (of g c.args.source.now) c.args.start c.args.end c.if-start-end.false c.in_ok-fits_range.ensures in (omega (arith, end, c.if-start-end.false), end)
 
 pub append_items-requires : goal.append_items-requires
 append_items-requires g c =
-    let p = parts g.S.Payload g.T.Payload g.C.GrowStore g.V.GrowStore g.met.S.Payload.asks g.met.S.Payload.holds g.met.T.Payload.asks g.met.T.Payload.holds in
-    let first = c.rank_in-first in
-    let last = c.rank_in-last in
-    granted_oks (p c.args.self.now) (p c.args.source.now) c.args.start c.args.end c.if-start-end.false first.result last.result first.ensures.value last.ensures.value (granted_end (p c.args.self.now) (p c.args.source.now) c.args.start c.args.end c.if-start-end.false c.in_ok-fits_range.ensures) c.in_ok-fits_range.ensures
+    let ranks = c.ranks_in-first in
+    granted_oks (of g c.args.self.now) (of g c.args.source.now) c.args.start c.args.end c.if-start-end.false ranks.result.0 ranks.result.1 ranks.ensures.first ranks.ensures.last (granted_end (of g c.args.self.now) (of g c.args.source.now) c.args.start c.args.end c.if-start-end.false c.in_ok-fits_range.ensures) c.in_ok-fits_range.ensures
 
 pub append_items-requires-2 : goal.append_items-requires-2
 append_items-requires-2 g c =
-    let p = parts g.S.Payload g.T.Payload g.C.GrowStore g.V.GrowStore g.met.S.Payload.asks g.met.S.Payload.holds g.met.T.Payload.asks g.met.T.Payload.holds in
-    let first = c.rank_in-first in
-    let last = c.rank_in-last in
-    granted_errs (p c.args.self.now) (p c.args.source.now) c.args.start c.args.end c.if-start-end.false first.result last.result first.ensures.value last.ensures.value (granted_end (p c.args.self.now) (p c.args.source.now) c.args.start c.args.end c.if-start-end.false c.in_ok-fits_range.ensures) c.in_ok-fits_range.ensures
+    let ranks = c.ranks_in-first in
+    granted_errs (of g c.args.self.now) (of g c.args.source.now) c.args.start c.args.end c.if-start-end.false ranks.result.0 ranks.result.1 ranks.ensures.first ranks.ensures.last (granted_end (of g c.args.self.now) (of g c.args.source.now) c.args.start c.args.end c.if-start-end.false c.in_ok-fits_range.ensures) c.in_ok-fits_range.ensures
 
 pub append_bits-requires : goal.append_bits-requires
 append_bits-requires g c =
-    let p = parts g.S.Payload g.T.Payload g.C.GrowStore g.V.GrowStore g.met.S.Payload.asks g.met.S.Payload.holds g.met.T.Payload.asks g.met.T.Payload.holds in
     record {
-      within = granted_end (p c.args.self.now) (p c.args.source.now) c.args.start c.args.end c.if-start-end.false c.in_ok-fits_range.ensures;
-      room = granted_marks (p c.args.self.now) (p c.args.source.now) c.args.start c.args.end c.if-start-end.false c.in_ok-fits_range.ensures;
+      within = granted_end (of g c.args.self.now) (of g c.args.source.now) c.args.start c.args.end c.if-start-end.false c.in_ok-fits_range.ensures;
+      room = granted_marks (of g c.args.self.now) (of g c.args.source.now) c.args.start c.args.end c.if-start-end.false c.in_ok-fits_range.ensures;
     }
 
 pub invariant_of-self : goal.invariant_of-self
 invariant_of-self g c =
-    let p = parts g.S.Payload g.T.Payload g.C.GrowStore g.V.GrowStore g.met.S.Payload.asks g.met.S.Payload.holds g.met.T.Payload.asks g.met.T.Payload.holds in
-    let first = c.rank_in-first in
-    let last = c.rank_in-last in
-    let a = range_held (p c.args.self.now) (p c.args.source.now) c.args.start c.args.end c.if-start-end.false first.result last.result first.ensures.value last.ensures.value (granted_end (p c.args.self.now) (p c.args.source.now) c.args.start c.args.end c.if-start-end.false c.in_ok-fits_range.ensures) _ _ _ c.append_bits.ensures.list c.append_items.ensures.list c.append_items-2.ensures.list in
+    let ranks = c.ranks_in-first in
+    let a = range_held (of g c.args.self.now) (of g c.args.source.now) c.args.start c.args.end c.if-start-end.false ranks.result.0 ranks.result.1 ranks.ensures.first ranks.ensures.last (granted_end (of g c.args.self.now) (of g c.args.source.now) c.args.start c.args.end c.if-start-end.false c.in_ok-fits_range.ensures) _ _ _ c.append_bits.ensures.list c.append_items.ensures.list c.append_items-2.ensures.list in
     record { ones = matched_ones _ _ _ _ a.0 a.1.0 a.1.1; zeros = matched_zeros _ _ _ _ a.0 a.1.0 a.1.1 }
 
 pub returns-clause-list : goal.returns-clause-list
 returns-clause-list g c =
-    let p = parts g.S.Payload g.T.Payload g.C.GrowStore g.V.GrowStore g.met.S.Payload.asks g.met.S.Payload.holds g.met.T.Payload.asks g.met.T.Payload.holds in
-    let first = c.rank_in-first in
-    let last = c.rank_in-last in
-    let a = range_held (p c.args.self.now) (p c.args.source.now) c.args.start c.args.end c.if-start-end.false first.result last.result first.ensures.value last.ensures.value (granted_end (p c.args.self.now) (p c.args.source.now) c.args.start c.args.end c.if-start-end.false c.in_ok-fits_range.ensures) _ _ _ c.append_bits.ensures.list c.append_items.ensures.list c.append_items-2.ensures.list in
-    merged _ _ _ _ a.0 a.1.0 a.1.1 ∙ list_after (p c.args.self.now) (p c.args.source.now) c.args.start c.args.end _ c.in_ok-fits_range.ensures
+    let ranks = c.ranks_in-first in
+    let a = range_held (of g c.args.self.now) (of g c.args.source.now) c.args.start c.args.end c.if-start-end.false ranks.result.0 ranks.result.1 ranks.ensures.first ranks.ensures.last (granted_end (of g c.args.self.now) (of g c.args.source.now) c.args.start c.args.end c.if-start-end.false c.in_ok-fits_range.ensures) _ _ _ c.append_bits.ensures.list c.append_items.ensures.list c.append_items-2.ensures.list in
+    merged _ _ _ _ a.0 a.1.0 a.1.1 ∙ list_after (of g c.args.self.now) (of g c.args.source.now) c.args.start c.args.end _ c.in_ok-fits_range.ensures
