@@ -1,4 +1,5 @@
 //! One driver for both columns: the same bits, entries, places and ranges, best of several runs each.
+use columnar::bytes::indexed::encode;
 use columnar::sums::rank_select::RankSelect;
 use columnar::{Borrow, Clear, Container, Index, Len, Push, Results};
 use std::hint::black_box;
@@ -21,6 +22,9 @@ extern "C" {
     ) -> u64;
     fn rumbykai_results_append(
         c: *mut u64, cn: usize, w: *mut u64, wn: usize, t: *mut u64, tn: usize, k: *mut u8, kn: usize, p: *const u64, pn: usize, n: usize, r: *const u64, rn: usize, rounds: usize,
+    ) -> usize;
+    fn rumbykai_results_write(
+        c: *mut u64, cn: usize, w: *mut u64, wn: usize, t: *mut u64, tn: usize, k: *mut u8, kn: usize, p: *const u64, pn: usize, n: usize, o: *mut u64, on: usize, rounds: usize,
     ) -> usize;
     fn rumbykai_walk(c: *mut u64, cn: usize, w: *mut u64, wn: usize, p: *const u64, pn: usize, ones_only: bool) -> u64;
 }
@@ -177,6 +181,16 @@ fn ours_results_append(v: &mut Visits, p: &[u64], n: usize, r: &[u64], rounds: u
     }
 }
 
+fn ours_results_write(v: &mut Visits, p: &[u64], n: usize, out: &mut [u64], rounds: usize) -> usize {
+    let b = &mut v.bits;
+    unsafe {
+        rumbykai_results_write(
+            b.counts.as_mut_ptr(), b.counts.len(), b.words.as_mut_ptr(), b.words.len(), v.times.as_mut_ptr(), v.times.len(), v.codes.as_mut_ptr(), v.codes.len(),
+            p.as_ptr(), p.len(), n, out.as_mut_ptr(), out.len(), rounds,
+        )
+    }
+}
+
 fn theirs_fill(c: &mut Theirs, p: &[u64], n: usize) {
     c.clear();
     for i in 0..n {
@@ -209,6 +223,16 @@ fn theirs_results_append(c: &mut Theirs, source: &mut Theirs, p: &[u64], n: usiz
         }
     }
     c.indexes.rank(c.len())
+}
+
+// The crate's store grows: it is kept and cleared, so that it has room.
+fn theirs_results_write(c: &mut Theirs, p: &[u64], n: usize, store: &mut Vec<u64>, rounds: usize) -> usize {
+    theirs_fill(c, p, n);
+    for _ in 0..rounds {
+        store.clear();
+        encode(store, &c.borrow());
+    }
+    store.len()
 }
 
 // The crate panics, or answers without ground, at the length and above.
@@ -293,4 +317,14 @@ fn main() {
     row("Results get, in order", n as f64, base, best(|| ours_results_get(&mut one, &pattern, n, &in_order)), best(|| theirs_results_get(&mut c, &pattern, n, &in_order)));
     row("Results append whole", 5.0 * n as f64, base, best(|| ours_results_append(&mut two, &pattern, n, &whole, 5)), best(|| theirs_results_append(&mut c, &mut d, &pattern, n, &whole, 5)));
     row("Results append ranges", 5.0 * length as f64, base, best(|| ours_results_append(&mut two, &pattern, n, &many, 5)), best(|| theirs_results_append(&mut c, &mut d, &pattern, n, &many, 5)));
+    // The words of both are the same, slice by slice. What filling and one writing take is taken off.
+    let mut out = vec![0; 2 * n];
+    let mut store = Vec::with_capacity(2 * n);
+    let ours = best(|| ours_results_write(&mut one, &pattern, n, &mut out, 1));
+    let them = best(|| theirs_results_write(&mut c, &pattern, n, &mut store, 1));
+    assert!(out[..ours.1] == store[..], "Results write");
+    let base = (ours.0, them.0);
+    let per = 10.0 * store.len() as f64;
+    row("Results write, a word", per, base, best(|| ours_results_write(&mut one, &pattern, n, &mut out, 11)), best(|| theirs_results_write(&mut c, &pattern, n, &mut store, 11)));
+    assert!(out[..store.len()] == store[..], "Results write");
 }

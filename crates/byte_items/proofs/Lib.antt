@@ -1,1 +1,2 @@
 pub mod InWords
+mod Packing

@@ -2,9 +2,10 @@
 use Rattle.std.specs.Prelude.{◌≡◌, ℕ, zero, suc, ◌-◌, ◌*◌, ◌<◌, ◌≤◌, min, List, [], ◌∷◌, ◌++◌, length, take, drop, refl}
 use Rattle.std.proofs.Common.{ap, sym, ◌∙◌, arith}
 use Rattle.std.proofs.lemmas.List.{take-append-drop, length-take, length-drop}
-use Rattle.columns.specs.Kinds.{Each}
+use Rattle.store.specs.Layout.{Slice, up}
+use Rattle.columns.specs.Kinds.{Each, one_slice}
 use Rattle.columns.proofs.Lists.{each_take, each_drop}
-use Rattle.byte_items.specs.Pack.{value, pack}
+use Rattle.byte_items.specs.Pack.{value, pack, bytes_slice}
 
 abbrev AllBytes : List ℕ → Type 0
 AllBytes bs = Each (λ b. b < 256) bs
@@ -12,6 +13,12 @@ AllBytes bs = Each (λ b. b < 256) bs
 pub length_pack : (n : ℕ) (bs : List ℕ) → length (pack n bs) ≡ n
 length_pack zero bs = refl
 length_pack (suc n) bs = ap suc (length_pack n (drop 8 bs))
+
+-- the slice, as that of a kind of one byte an item
+pub sole : (xs : List ℕ) → ◌≡◌ {A = List Slice} (bytes_slice xs ∷ []) (one_slice 1 (λ ys. pack (up (length ys)) ys) xs)
+sole xs =
+    let e : length xs ≡ 1 * length xs = omega arith in
+    ap (λ n. record { bytes = n; words = pack (up (length xs)) xs } ∷ []) e
 
 pub value_one : (xs ys : List ℕ) → length xs ≡ length ys → AllBytes xs → AllBytes ys → value xs ≡ value ys → xs ≡ ys
 value_one [] [] l f g e = refl

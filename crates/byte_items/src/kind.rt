@@ -1,13 +1,16 @@
-ghost use Rattle.std.specs.Prelude.{◌≡◌, ◌<◌, false, [], ◌∷◌, length};
+ghost use Rattle.std.specs.Prelude.{◌≡◌, ◌+◌, ◌*◌, ◌<◌, ◌≤◌, min, false, [], ◌∷◌, length, take, drop};
 ghost use Rattle.std.specs.Coded.{le_prop};
-ghost use Rattle.byte_items.specs.Pack.{bytes_slice, pack};
+ghost use Rattle.byte_items.specs.Pack.{bytes_slice, pack, value};
 ghost use Rattle.std.proofs.Common.{arith, sym, ◌∙◌, ap, rules};
 ghost use Rattle.store.specs.Layout.{up};
 ghost use Rattle.byte_items.specs.Packed.{length_pack, pack_one};
+ghost use Rattle.byte_items.specs.Packed;
 ghost use Rattle.byte_items.specs.Pack;
+ghost use Rattle.columns.specs.Kinds.{most_items};
 
-use columns::kind::{Kind, Plain, sole_size};
+use columns::kind::{Kind, Packs, Plain, sole_size};
 use items::items::Items;
+use words::reading::{ReadStore, item_of};
 
 // Bytes are stored as one slice, 8 to a word.
 pub enum BytesKind {}
@@ -48,5 +51,44 @@ impl Kind<u8> for BytesKind {
 }
 
 impl Plain<u8> for BytesKind {
+    ghost width = { 1 };
+
+    ghost words = { λ xs. pack (up (length xs)) xs };
+
+    ghost sole = { Packed.sole };
+
     fn fits(_b: u8) {}
+
+    fn width() -> usize {
+        1
+    }
+}
+
+impl<S: ReadStore<Item = u8>> Packs<S> for BytesKind {
+    #[tactic(auto, using(crate::proofs::Packing::pack_at))]
+    fn word(store: &S, j: usize) -> u64 {
+        let n = store.len();
+        let from = 8 * j;
+        if n - from >= 8 {
+            packed(store, from, from + 8)
+        } else {
+            packed(store, from, n)
+        }
+    }
+}
+
+// Eight of a store's bytes as a word, from place `from` on and lowest first, or as many as there are. The
+// caller says where they end, so that the compiler knows how many a whole word has.
+#[tactic(auto, using(crate::proofs::Packing::packed_step, crate::proofs::Packing::packed_small, crate::proofs::Packing::packed_fits, crate::proofs::Packing::packed_all))]
+fn packed<S: ReadStore<Item = u8>>(store: &S, from: usize, end: usize) -> u64
+    requires within { end ≤ length (S.ReadStore.list store.now) }
+    requires eight { end ≤ from + 8 }
+    requires all { min (length (S.ReadStore.list store.now)) (from + 8) ≤ end }
+    ensures { result ≡ value (take 8 (drop from (S.ReadStore.list store.now))) }
+{
+    let mut word = 0u64;
+    for i in (from..end).rev() {
+        word = 256 * word + item_of(store, i) as u64;
+    }
+    word
 }

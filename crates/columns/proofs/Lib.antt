@@ -4,3 +4,5 @@ pub mod Within
 pub mod Picked
 pub mod Slices
 pub mod Marked
+pub mod Formed
+pub mod Puts

@@ -38,3 +38,7 @@ size_of sizes k = if nat_lt k cut then slice_index sizes k else 0
 -- words as one slice, 8 bytes a word
 abbrev pub words_slice : List ℕ → Slice
 words_slice ws = record { bytes = 8 * length ws; words = ws }
+
+-- items as one slice, `width` bytes an item
+abbrev pub one_slice : {A : Type 0} → ℕ → (List A → List ℕ) → List A → List Slice
+one_slice width words xs = record { bytes = width * length xs; words = words xs } ∷ []

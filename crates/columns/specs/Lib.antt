@@ -1,3 +1,4 @@
 pub mod Plain
 pub mod Kinds
 pub mod Variants
+pub mod Writing

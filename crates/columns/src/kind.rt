@@ -1,6 +1,8 @@
-ghost use Rattle.std.specs.Prelude.{◌≡◌, ℕ, Bool, List, [], ◌∷◌, length};
+ghost use Rattle.std.specs.Prelude.{◌≡◌, ℕ, ◌<◌, Bool, List, [], ◌∷◌, length, slice_index};
 ghost use Rattle.store.specs.Layout.{Slice, AllFormed};
-ghost use Rattle.columns.specs.Kinds.{Lawful, Whole, count_of, size_of};
+ghost use Rattle.columns.specs.Kinds.{Lawful, Whole, count_of, size_of, one_slice};
+
+use words::reading::ReadStore;
 
 // One more than the most slices of a kind that is written or opened.
 pub const CUT: usize = 4096;
@@ -45,10 +47,30 @@ pub trait Kind<I> {
     ghost single: { (xs ys : List I) → Lawful fit xs → Lawful fit ys → form xs ≡ form ys → xs ≡ ys };
 }
 
-// A kind of items whose type alone says that they fit, as a word is below 2 ^ 64.
+// A kind of items whose type alone says that they fit, as a word is below 2 ^ 64. They are stored as one
+// slice, worked out word by word.
 pub trait Plain<I>: Kind<I> {
+    // The size of an item in bytes.
+    ghost width: { ℕ };
+
+    // The words of the slice.
+    ghost words: { List I → List ℕ };
+
     fn fits(x: I)
         ensures { Self.Kind.fit x };
+
+    fn width() -> usize
+        ensures { result ≡ width };
+
+    ghost sole: { (xs : List I) → Self.Kind.form xs ≡ one_slice width words xs };
+}
+
+// Such a kind, over a store of its items.
+pub trait Packs<S: ReadStore>: Plain<S::Item> {
+    // Word `j` of the slice of the store's list.
+    fn word(store: &S, j: usize) -> u64
+        requires { j < length (Self.Plain.words (S.ReadStore.list store.now)) }
+        ensures { result ≡ slice_index (Self.Plain.words (S.ReadStore.list store.now)) j };
 }
 
 // The size of an element of slice `k`, where there is one slice, of elements of `size`.

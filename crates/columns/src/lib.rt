@@ -5,3 +5,6 @@ pub mod asking;
 pub mod column;
 pub mod granted;
 pub mod kind;
+pub mod marks;
+pub mod stored;
+pub mod writing;

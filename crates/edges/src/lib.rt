@@ -2,6 +2,10 @@
 #![tactic(auto)]
 
 use bits::rank_select::RankSelect;
+use columns::column::{Column, Payload};
+use columns::kind::Kind;
+use columns::stored::Stored;
+use columns::writing::write;
 use cursor::cursor::Cursor;
 use refusals::fault::Fault;
 use refusals::refusal::Refusal;
@@ -147,6 +151,72 @@ pub fn slice_shape(words: &[u64], expected: usize, k: usize) -> Result<(usize, u
     let checked = RawStore::new(words).check(expected)?;
     let (part, tail) = checked.slice(k);
     Ok((part.len(), tail))
+}
+
+// Pushes entries one by one.
+pub fn push_each<C: Payload>(column: &mut C, entries: &[C::Item]) -> Result<(), C::Fault> {
+    for entry in entries.iter() {
+        column.push(*entry)?;
+    }
+    Ok(())
+}
+
+// Pushes `n` entries, of which every twentieth is Some.
+pub fn fill_options<C: Payload + Column<Item = Option<u64>>>(
+    column: &mut C,
+    n: usize,
+) -> Result<(), C::Fault> {
+    for i in 0..n {
+        column.push(if i % 20 == 0 { Some(i as u64) } else { None })?;
+    }
+    Ok(())
+}
+
+// At how many places the writings of two columns, of up to 128 words, differ, and how much longer one is.
+pub fn apart<A: Stored, B: Stored>(a: &A, b: &B) -> Result<usize, Fault> {
+    let mut left = [0; 128];
+    let mut right = [1; 128]; // other words, so that one that is not written differs
+    let n = write(a, &mut left)?;
+    let mut wrong = n.abs_diff(write(b, &mut right)?);
+    for i in 0..n.min(128) {
+        if left[i] != right[i] {
+            wrong = wrong.saturating_add(1);
+        }
+    }
+    Ok(wrong)
+}
+
+// Checks and validates words with the number of slices of a column's kind, up to 8, and their sizes.
+pub fn opened<C: Column>(_column: &C, words: &[u64]) -> Result<(), Fault> {
+    let n = C::Kind::slice_count();
+    let mut sizes = [0; 8];
+    for k in 0..n.min(8) {
+        sizes[k] = C::Kind::element_size(k);
+    }
+    let _ = RawStore::new(words).check(n)?;
+    let _ = RawStore::new(words).validate(&sizes[..n.min(8)])?;
+    Ok(())
+}
+
+// Whether slice `k` has those words and tail bytes.
+pub fn slice_is(
+    words: &[u64],
+    expected: usize,
+    k: usize,
+    contents: &[u64],
+    tail: u8,
+) -> Result<bool, Fault> {
+    let checked = RawStore::new(words).check(expected)?;
+    let (part, found) = checked.slice(k);
+    if part.len() != contents.len() || found != tail {
+        return Ok(false);
+    }
+    for (i, w) in contents.iter().enumerate() {
+        if part.item(i)? != *w {
+            return Ok(false);
+        }
+    }
+    Ok(true)
 }
 
 #[cfg(test)]

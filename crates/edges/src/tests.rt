@@ -1,11 +1,18 @@
 use crate::{
-    astray, changes_with, fill, misplaced, number_of, push_range, push_words, slice_shape,
-    stray_walks, unlike,
+    apart, astray, changes_with, fill, fill_options, misplaced, number_of, opened, push_each,
+    push_range, push_words, slice_is, slice_shape, stray_walks, unlike,
 };
 use bits::rank_select::RankSelect;
+use byte_items::kind::Bytes;
+use columns::column::Payload;
+use columns::writing::{size, write};
 use cursor::cursor::Cursor;
+use empties::empties::Empties;
+use items::items::Words;
+use options::options::Options;
 use refusals::fault::Fault;
 use refusals::refusal::Refusal;
+use results::results::Results;
 use std::test::Fail;
 use store::store::RawStore;
 use words::heap::HeapWords;
@@ -298,4 +305,100 @@ fn an_altered_column_is_taken_as_it_is(rt: HostRuntime) -> Result<(), Fail> {
     assert_eq!(rt; cursor.next_one(&column), Ok(None));
     assert_eq!(rt; (cursor.pos(), cursor.rank()), (64, 4));
     Ok(())
+}
+
+// Words or none, over tables.
+fn in_tables() -> Options<Words<Table64>, Table64, Table64> {
+    Options::new(Table64::new(), Table64::new(), Words::new(Table64::new()))
+}
+
+#[test]
+fn one_word_too_few_and_two_too_many(rt: HostRuntime) -> Result<(), Fail> {
+    let mut column = in_tables();
+    push_each(&mut column, &[Some(7), None, Some(9)])?;
+    let mut few = [1; 8];
+    assert_eq!(rt; write(&column, &mut few), Err(Fault::Room(9)));
+    assert!(rt; Fault::Room(9).number() == 15);
+    assert_eq!(rt; few, [1; 8]);
+    let mut many = [1; 11];
+    assert_eq!(rt; write(&column, &mut many), Ok(9));
+    assert_eq!(rt; many, [40, 40, 40, 56, 72, 5, 3, 7, 9, 1, 1]);
+    Ok(())
+}
+
+#[test]
+fn a_written_column_opens_as_a_store(rt: HostRuntime) -> Result<(), Fail> {
+    let mut codes = [0u8; 4];
+    let mut column = Results::new(
+        Table64::new(),
+        Table64::new(),
+        Words::new(Table64::new()),
+        Bytes::new(Lent::new(&mut codes, 0)),
+    );
+    push_each(&mut column, &[Ok(500), Err(3), Ok(800), Err(4), Err(3)])?;
+    let mut words = [1; 11];
+    assert_eq!(rt; write(&column, &mut words), Ok(11));
+    assert_eq!(rt; words, [48, 48, 48, 64, 80, 83, 5, 5, 500, 800, 197635]);
+    assert_eq!(rt; opened(&column, &words), Ok(()));
+    assert_eq!(rt; slice_is(&words, 5, 0, &[], 0), Ok(true));
+    assert_eq!(rt; slice_is(&words, 5, 1, &[], 0), Ok(true));
+    assert_eq!(rt; slice_is(&words, 5, 2, &[5, 5], 0), Ok(true));
+    assert_eq!(rt; slice_is(&words, 5, 3, &[500, 800], 0), Ok(true));
+    assert_eq!(rt; slice_is(&words, 5, 4, &[197635], 3), Ok(true));
+    Ok(())
+}
+
+#[test]
+fn equal_entries_are_written_alike(rt: HostRuntime) -> Result<(), Fail> {
+    let mut pushed = in_tables();
+    fill_options(&mut pushed, 70)?;
+    pushed.clear();
+    fill_options(&mut pushed, 1100)?;
+    assert_eq!(rt; size(&pushed), Ok(80));
+    let heap = rt.alloc();
+    let mut reserved = Options::new(
+        HeapWords::new(heap, 1)?,
+        HeapWords::new(heap, 17)?,
+        Words::new(HeapWords::new(heap, 55)?),
+    );
+    fill_options(&mut reserved, 1100)?;
+    assert_eq!(rt; apart(&pushed, &reserved)?, 0);
+    let mut joined = in_tables();
+    joined.append(&pushed, 0, 100)?;
+    joined.append(&pushed, 100, 1030)?;
+    joined.append(&pushed, 1030, 1100)?;
+    assert_eq!(rt; apart(&pushed, &joined)?, 0);
+    Ok(())
+}
+
+#[test]
+fn used_buffers_leave_no_trace(rt: HostRuntime) -> Result<(), Fail> {
+    let mut column = in_tables();
+    push_each(&mut column, &[Some(7), None, Some(9)])?;
+    let mut counts = [3; 1];
+    let mut marks = [3; 2];
+    let mut times = [3; 4];
+    let mut lent = Options::new(
+        Lent::new(&mut counts, 1),
+        Lent::new(&mut marks, 2),
+        Words::new(Lent::new(&mut times, 3)),
+    );
+    push_each(&mut lent, &[Some(7), None, Some(8), None])?;
+    assert!(rt; apart(&column, &lent)? > 0);
+    lent.clear();
+    push_each(&mut lent, &[Some(7), None, Some(9)])?;
+    assert_eq!(rt; apart(&column, &lent)?, 0);
+    Ok(())
+}
+
+#[test]
+fn empty_columns_are_written(rt: HostRuntime) {
+    let mut words = [1; 8];
+    assert_eq!(rt; size(&Empties::new()), Ok(3));
+    assert_eq!(rt; write(&Words::new(Table64::new()), &mut words), Ok(2));
+    assert_eq!(rt; words, [16, 16, 1, 1, 1, 1, 1, 1]);
+    assert_eq!(rt; write(&Empties::new(), &mut words), Ok(3));
+    assert_eq!(rt; words, [16, 24, 0, 1, 1, 1, 1, 1]);
+    assert_eq!(rt; write(&in_tables(), &mut words), Ok(7));
+    assert_eq!(rt; words, [40, 40, 40, 56, 56, 0, 0, 1]);
 }

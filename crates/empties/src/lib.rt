@@ -3,3 +3,4 @@
 
 pub mod empties;
 pub mod kind;
+pub mod writing;

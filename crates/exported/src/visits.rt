@@ -2,6 +2,7 @@
 use crate::pattern_bit;
 use byte_items::kind::Bytes;
 use columns::column::{Column, Payload, Variant};
+use columns::writing::write;
 use items::items::Words;
 use results::results::Results;
 use words::lent::Lent;
@@ -80,6 +81,27 @@ pub extern "C" fn rumbykai_results_get(
         .filter_map(|p| column.get(*p as usize).ok())
         .map(|visit| visit.unwrap_or_else(|code| code as u64))
         .fold(0, u64::wrapping_add)
+}
+
+// The words of the writing, or 0 where it was refused.
+#[unsafe(no_mangle)]
+pub extern "C" fn rumbykai_results_write(
+    counts: &mut [u64],
+    words: &mut [u64],
+    times: &mut [u64],
+    codes: &mut [u8],
+    pattern: &[u64],
+    n: usize,
+    out: &mut [u64],
+    rounds: usize,
+) -> usize {
+    let mut column = no_visits(counts, words, times, codes);
+    fill(&mut column, pattern, n);
+    let mut written = 0;
+    for _ in 0..rounds {
+        written = write(&column, out).unwrap_or(0);
+    }
+    written
 }
 
 // A buffer cut in two.

@@ -17,7 +17,7 @@ use words::reading::{GrowStore, Owned, ReadStore, item_of, put_in};
 // Plain items, one after the other: the store's capacity is the limit.
 #[derive(Drop)]
 pub struct Items<S: ReadStore, K: Plain<S::Item>> {
-    store: S,
+    pub(crate) store: S,
     kind: PhantomData<K>,
     owned: Owned,
     ghost few: { length (S.ReadStore.list store) ≤ most_items },

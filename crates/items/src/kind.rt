@@ -3,7 +3,8 @@ ghost use Rattle.std.specs.Coded.{le_prop};
 ghost use Rattle.columns.specs.Kinds.{words_slice};
 ghost use Rattle.std.proofs.Common.{rules};
 
-use columns::kind::{Kind, Plain, sole_size};
+use columns::kind::{Kind, Packs, Plain, sole_size};
+use words::reading::{ReadStore, word_of};
 
 // Words are stored as one slice, 8 bytes a word.
 pub enum WordsKind {}
@@ -37,5 +38,21 @@ impl Kind<u64> for WordsKind {
 }
 
 impl Plain<u64> for WordsKind {
+    ghost width = { 8 };
+
+    ghost words = { λ xs. xs };
+
+    ghost sole = { Prim.search rules };
+
     fn fits(_w: u64) {}
+
+    fn width() -> usize {
+        8
+    }
+}
+
+impl<S: ReadStore<Item = u64>> Packs<S> for WordsKind {
+    fn word(store: &S, j: usize) -> u64 {
+        word_of(store, j)
+    }
 }

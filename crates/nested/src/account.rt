@@ -1,5 +1,7 @@
 use columns::column::{Column, Payload, Variant};
 use columns::kind::Kind;
+use columns::stored::Stored;
+use columns::writing::{size, write};
 use refusals::refusal::Refusal;
 use std::{fmt, io};
 
@@ -53,5 +55,17 @@ where
     match column.select(0) {
         Some(place) => println!(rt; "  the first marked one stands at {place}"),
         None => println!(rt; "  none is marked"),
+    }
+}
+
+// Prints how many words a column's writing takes, and the words where they go into `out`.
+pub fn tell_written<C: Stored, R: Print>(rt: &R, column: &C, out: &mut [u64]) -> io::Result<()> {
+    match size(column) {
+        Ok(n) => print!(rt; "  in {n} words: ")?,
+        Err(f) => print!(rt; "  in no words, {f}: ")?,
+    }
+    match write(column, out) {
+        Ok(n) => println!(rt; "{:?}", &out[..n]),
+        Err(f) => println!(rt; "{f}"),
     }
 }

@@ -1,8 +1,8 @@
 // Visits in nested columns, over tables, lent buffers and words in memory: pushed one by one, joined by
-// ranges, and printed with every refusal in words.
+// ranges, printed with every refusal in words, and written as words.
 #![tactic(auto)]
 
-use account::{push_each, report, tell};
+use account::{push_each, report, tell, tell_written};
 use byte_items::kind::Bytes;
 use columns::column::Payload;
 use items::items::Words;
@@ -34,13 +34,15 @@ fn reached_or_missed(rt: &HostRuntime) -> io::Result<()> {
     let mut day = in_tables(&mut codes);
     push_each(rt, &mut day, &[Ok(500), Err(3), Ok(800), Err(4), Err(3)])?;
     tell(rt, "a day: times in a table, codes in a lent buffer", &day)?;
+    tell_written(rt, &day, &mut [0; 11])?;
     let mut week = in_tables(&mut joined_codes);
     report(rt, "append entries 0 to 4", week.append(&day, 0, 5))?;
     report(rt, "append entries 1 to 4", week.append(&day, 1, 5))?;
     report(rt, "append entries 2 to 3", week.append(&day, 2, 4))?;
     report(rt, "append entries 3 to 8", week.append(&day, 3, 9))?;
     report(rt, "append entries 9 to 8", week.append(&day, 9, 9))?;
-    tell(rt, "the days joined", &week)
+    tell(rt, "the days joined", &week)?;
+    tell_written(rt, &week, &mut [0; 11])
 }
 
 // A time, or none yet: all in lent buffers, with room for three times.
@@ -59,6 +61,7 @@ fn perhaps_a_time(rt: &HostRuntime) -> io::Result<()> {
         &[Some(7), None, Some(9), Some(11), Some(13), None],
     )?;
     tell(rt, "times or none, in lent buffers", &route)?;
+    tell_written(rt, &route, &mut [0; 11])?;
     route.clear();
     tell(rt, "cleared", &route)
 }

@@ -1,3 +1,4 @@
 mod Parts
+mod Storing
 mod Pushes
 mod Ranges

@@ -5,3 +5,4 @@ pub mod fault;
 pub mod growing;
 pub mod kind;
 pub mod results;
+pub mod writing;

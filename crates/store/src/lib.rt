@@ -3,5 +3,5 @@
 
 pub mod laws;
 pub mod store;
-mod table;
+pub mod table;
 pub mod worked;

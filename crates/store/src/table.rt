@@ -4,7 +4,7 @@ ghost use Rattle.store.specs.Answers.{longest, answered, ends_fault, check_answe
 use refusals::fault::Fault;
 
 // The most words that a store may have.
-const LONGEST: usize = 268_435_456;
+pub const LONGEST: usize = 268_435_456;
 
 // The most slices that a caller may ask for.
 pub(crate) const MOST_SLICES: usize = 4095;

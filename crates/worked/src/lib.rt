@@ -3,3 +3,4 @@
 
 mod bit_columns;
 pub mod table;
+mod writing;

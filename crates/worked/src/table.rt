@@ -1,7 +1,8 @@
-ghost use Rattle.std.specs.Prelude.{◌≡◌, true, Some, None, Ok, Err};
+ghost use Rattle.std.specs.Prelude.{◌≡◌, true, [], ◌∷◌, Some, None, Ok, Err};
 ghost use Rattle.refusals.specs.declared.fault.Fault.TheVariants.{Outside};
 
 use crate::bit_columns::{counts_of_ones, of_far_rank, of_group, of_none, of_three, of_walk};
+use crate::writing::{of_size, of_writing};
 use refusals::fault::Fault;
 
 // What the calls of the examples answered.
@@ -29,6 +30,10 @@ pub struct Table {
         Result<Option<bool>, Fault>,
         Result<Option<usize>, Fault>,
     ),
+    // Some 7, None, Some 9: the words that they take; what write answers for nine words of 0, and the words
+    // behind it
+    pub size: Result<usize, Fault>,
+    pub written: (Result<usize, Fault>, [u64; 9]),
 }
 
 // The examples worked by hand, as one table.
@@ -40,6 +45,8 @@ pub fn worked() -> Table
     ensures far { result.far ≡ None }
     ensures group { result.group ≡ (Ok 4611686018427387904, 1, 1) }
     ensures walk { result.walk ≡ (Ok (Some 63), Ok (Some true), Ok (Some 129)) }
+    ensures size { result.size ≡ Ok 9 }
+    ensures written { result.written ≡ (Ok 9, 40 ∷ 40 ∷ 40 ∷ 56 ∷ 72 ∷ 5 ∷ 3 ∷ 7 ∷ 9 ∷ []) }
 {
     Table {
         none: of_none(),
@@ -49,5 +56,7 @@ pub fn worked() -> Table
         far: of_far_rank(),
         group: of_group(),
         walk: of_walk(),
+        size: of_size(),
+        written: of_writing(),
     }
 }
