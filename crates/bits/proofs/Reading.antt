@@ -1,8 +1,10 @@
 -- What the reading calls answer, over the words and the tail.
-use Rattle.std.proofs.Common.{◌≡◌, ℕ, zero, suc, ◌+◌, ◌-◌, ◌*◌, ◌/◌, ◌%◌, ◌^◌, ◌<◌, ◌≤◌, Bool, false, cond, eqb, ltb, List, length, get_or, Ok, Option, sym, ap, ◌∙◌, ap₂, arith}
+use Rattle.std.proofs.Common.{◌≡◌, ℕ, zero, suc, ◌+◌, ◌-◌, ◌*◌, ◌/◌, ◌%◌, ◌^◌, ◌<◌, ◌≤◌, Bool, false, cond, eqb, ltb, List, [], ◌∷◌, length, get_or, Ok, Option, Result, sym, ap, ◌∙◌, ap₂, arith}
 use lib.Bits.{bit_and, and_mask}
 use lib.Count.{ones, ones-le}
 use Rattle.std.proofs.lemmas.Bool.{lt-ltb, le-leb}
+use Rattle.std.specs.Result.{result_unwrap_or}
+use Rattle.words.specs.Words.{got}
 use Rattle.bitlaws.specs.Bits.{bits_of, rank_of, first_from}
 use Rattle.bitlaws.proofs.Groups.{masked}
 use Rattle.bitlaws.proofs.Words.{length_bits, bit_at, rank_at, rank_none}
@@ -44,3 +46,9 @@ before_words cs bs n each h =
 -- a word has at most 64 ones
 pub few_ones : (w : ℕ) → w < 2 ^ 64 → ones w ≤ 64
 few_ones w h = ones-le 64 w h
+
+-- an item, or what stands in for one that is not there
+pub got_or : {A F : Type 0} (f : F) (xs : List A) (i : ℕ) (d : A) (r : Result A F) → r ≡ got f xs i → result_unwrap_or r d ≡ get_or xs i d
+got_or f [] i d r e = ap (λ r. result_unwrap_or r d) e
+got_or f (x ∷ xs) zero d r e = ap (λ r. result_unwrap_or r d) e
+got_or f (x ∷ xs) (suc i) d r e = got_or f xs i d r e

@@ -43,14 +43,11 @@ impl<V: ReadStore<Item = u64>> Bools<V> {
     }
 
     // Word `block`, or the tail's behind the last.
+    #[tactic(auto, using(crate::proofs::Reading::got_or))]
     pub(crate) fn word(&self, block: usize) -> u64
-        requires { block ≤ length (V.ReadStore.list self.now.values) }
         ensures { result ≡ slice_index_or (V.ReadStore.list self.now.values) block self.now.tail.word }
     {
-        if block == self.values.len() {
-            return self.tail.word;
-        }
-        word_of(&self.values, block)
+        self.values.item(block).unwrap_or(self.tail.word)
     }
 
     // Bit `index`, refused with 1 outside.

@@ -59,7 +59,7 @@ impl<C: ReadStore<Item = u64>, V: ReadStore<Item = u64>> RankSelect<C, V> {
     pub fn word_at(&self, block: usize) -> Result<u64, Fault>
         ensures { result ≡ word_or_tail (V.ReadStore.list self.now.values.values) self.now.values.tail.word block }
     {
-        if block > self.values.len() / WORD {
+        if block > self.values.words().len() {
             return Err(Fault::Outside(block));
         }
         Ok(self.values.word(block))
