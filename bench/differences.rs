@@ -1,8 +1,8 @@
 //! Shows, on the crate, what docs/DIFFERENCES.md says of it.
-use columnar::bytes::indexed::{validate_structure, DecodedStore};
+use columnar::bytes::indexed::{encode, validate_structure, DecodedStore};
 use columnar::sums::rank_select::RankSelect;
 use columnar::primitive::Empties;
-use columnar::{Borrow, Container, Index, Len, Push, Results};
+use columnar::{Borrow, Container, Index, Len, Options, Push, Results};
 use std::panic::catch_unwind;
 
 fn column(bits: &[bool]) -> RankSelect {
@@ -93,5 +93,13 @@ fn main() {
         let _ = visits.borrow().get(1).is_ok();
     })
     .is_err());
+    // a writing is added behind what is there, and its ends are counted from its own first word
+    let mut times: Options<Vec<u64>> = Options::default();
+    for time in [Some(7u64), None, Some(9)] {
+        times.push(time);
+    }
+    let mut store = vec![1u64];
+    encode(&mut store, &times.borrow());
+    assert_eq!(store, [1, 40, 40, 40, 56, 72, 5, 3, 7, 9]);
     println!("the crate differs as docs/DIFFERENCES.md says");
 }
