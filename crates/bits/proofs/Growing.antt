@@ -103,7 +103,14 @@ fits_less m n v k h e =
     let q = fits_parts n v p.0 in
     fits_made m v k (omega (arith, h, q.0)) (omega (arith, h, q.1)) (omega (arith, h, p.1))
 
--- bits that stay in the tail pass no limit
+-- bits that stay in the tail pass no limit, that of the words alone and that of both
+pub words_tail : (ws : List ℕ) (t k m v : ℕ) → Held ws t k → k + m < 64 → length ws ≤ v → fits_words (length (bits_of ws t k) + m) v ≡ true
+words_tail ws t k m v h few words =
+    let long = length_bits ws t k in
+    let p : leb (length (bits_of ws t k) + m) most_bits ≡ true = le-leb _ _ (omega (arith, long, h.small, few)) in
+    let q : leb ((length (bits_of ws t k) + m) / 64) v ≡ true = le-leb _ _ (omega (arith, long, words, few)) in
+    rw (p, q)
+
 pub fits_tail : (ws cs : List ℕ) (t k m v n : ℕ) → Held ws t k → Counted cs (bits_of ws t k) → k + m < 64 → length ws ≤ v → length cs ≤ n → fits (length (bits_of ws t k) + m) v n ≡ true
 fits_tail ws cs t k m v n h counted few words counts =
     let long = length_bits ws t k in

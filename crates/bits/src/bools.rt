@@ -15,7 +15,7 @@ pub struct Bools<V: ReadStore<Item = u64>> {
     values: V,
     tail: Tail,
     owned: Owned,
-    ghost held: { Held (V.ReadStore.list values) tail.word tail.bits } by { Prim.hlevel props },
+    pub ghost held: { Held (V.ReadStore.list values) tail.word tail.bits } by { Prim.hlevel props },
 }
 
 impl<V: ReadStore<Item = u64>> Bools<V> {

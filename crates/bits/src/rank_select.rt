@@ -21,7 +21,7 @@ const BITS_PER_CHUNK: usize = 1024;
 pub struct RankSelect<C: ReadStore<Item = u64>, V: ReadStore<Item = u64>> {
     counts: C,
     values: Bools<V>,
-    ghost counted: { Counted (C.ReadStore.list counts) (bits_of (V.ReadStore.list values.values) values.tail.word values.tail.bits) } by { Prim.hlevel props },
+    pub ghost counted: { Counted (C.ReadStore.list counts) (bits_of (V.ReadStore.list values.values) values.tail.word values.tail.bits) } by { Prim.hlevel props },
 }
 
 impl<C: ReadStore<Item = u64>, V: ReadStore<Item = u64>> RankSelect<C, V> {

@@ -1,7 +1,5 @@
 ghost use Rattle.std.specs.Prelude.{◌≡◌, ℕ, ◌+◌, ◌-◌, ◌*◌, ◌/◌, ◌%◌, ◌^◌, ◌<◌, ◌≤◌};
 
-use crate::group::Group;
-
 // The bits in one word.
 pub const WORD: usize = 64;
 
@@ -30,16 +28,16 @@ impl Tail {
         self.word | (group << self.bits)
     }
 
-    // The tail with a group behind it that does not fill the word.
+    // The tail with a group of `count` bits behind it that does not fill the word.
     #[tactic(auto, using(bitlaws::proofs::Groups::joined_lt, bitlaws::proofs::Groups::joined_whole))]
-    pub fn with(&self, group: Group) -> Self
-        requires { self.now.bits + group.count < 64 }
-        ensures word { result.word ≡ group.word * 2 ^ self.now.bits + self.now.word }
-        ensures bits { result.bits ≡ self.now.bits + group.count }
+    pub fn with(&self, group: u64, count: usize) -> Self
+        requires { (group < 2 ^ count) × (self.now.bits + count < 64) }
+        ensures word { result.word ≡ group * 2 ^ self.now.bits + self.now.word }
+        ensures bits { result.bits ≡ self.now.bits + count }
     {
         Tail {
-            word: self.joined(group.word),
-            bits: self.bits + group.count,
+            word: self.joined(group),
+            bits: self.bits + count,
         }
     }
 
@@ -55,16 +53,16 @@ impl Tail {
         }
     }
 
-    // The tail behind the word that a group fills.
+    // The tail behind the word that such a group has filled.
     #[tactic(auto, using(bitlaws::proofs::Groups::rest_lt))]
-    pub fn rest(&self, group: Group) -> Self
-        requires { 64 ≤ self.now.bits + group.count }
-        ensures word { result.word ≡ (group.word * 2 ^ self.now.bits + self.now.word) / 2 ^ 64 }
-        ensures bits { result.bits ≡ self.now.bits + group.count - 64 }
+    pub fn rest(&self, group: u64, count: usize) -> Self
+        requires { (group < 2 ^ count) × ((count ≤ 64) × (64 ≤ self.now.bits + count)) }
+        ensures word { result.word ≡ (group * 2 ^ self.now.bits + self.now.word) / 2 ^ 64 }
+        ensures bits { result.bits ≡ self.now.bits + count - 64 }
     {
         Tail {
-            word: self.over(group.word),
-            bits: self.bits + group.count - WORD,
+            word: self.over(group),
+            bits: self.bits + count - WORD,
         }
     }
 }

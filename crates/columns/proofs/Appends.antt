@@ -18,6 +18,11 @@ pub inner_err : {X F G P : Type 0} (side : F → G) (h : G) (r : Result X F) →
 inner_err side h (Ok y) e p = let w : ◌≡◌ {A = ℕ} 0 1 = cc in let v : ⊥ = omega arith in elim v [ ]
 inner_err side h (Err f) e p = p
 
+-- a refusal that was given its side, by what it is without
+pub sided : {X F G : Type 0} (side : F → G) (h : G) (r s : Result X F) (t : Result X G) → r ≡ s → ((f : F) → Err f ≡ s → Err (side f) ≡ t) → Err h ≡ result_map_both (λ u. u) side r → Err h ≡ t
+sided side h (Ok x) s t q k e = let w : ◌≡◌ {A = ℕ} 0 1 = cc in let v : ⊥ = omega arith in elim v [ ]
+sided side h (Err f) s t q k e = e ∙ k f q
+
 -- what holds whichever way a call went holds where it was refused
 pub on_refusal : {T F P : Type 0} (r : Result T F) → P → OnErr r P
 on_refusal (Ok u) p = tt

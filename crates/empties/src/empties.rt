@@ -1,4 +1,4 @@
-ghost use Rattle.std.specs.Prelude.{◌≡◌, ◌≤◌, []};
+ghost use Rattle.std.specs.Prelude.{◌≡◌, min, []};
 ghost use Rattle.columns.specs.Kinds.{most_items};
 ghost use Rattle.columns.specs.Plain.{within, within_answer};
 ghost use Rattle.empties.specs.Counts.{units};
@@ -15,11 +15,11 @@ use refusals::fault::Fault;
 use refusals::refusal::Refusal;
 use words::reading::MOST;
 
-// Units, which are all alike: their number says which list it is.
+// Units, which are all alike: their number, cut to the most there may be, says which list it is. It is cut in
+// code, as the length of `Table64`, and for the same reason.
 #[derive(Clone, Copy)]
 pub struct Empties {
     count: usize,
-    ghost few: { count ≤ most_items },
 }
 
 impl Empties {
@@ -28,6 +28,12 @@ impl Empties {
         ensures { units result.count ≡ [] }
     {
         Empties { count: 0 }
+    }
+
+    fn at(&self) -> usize
+        ensures { result ≡ min self.now.count most_items }
+    {
+        self.count.min(MOST)
     }
 }
 
@@ -38,17 +44,17 @@ impl Column for Empties {
 
     type Kind = EmptiesKind;
 
-    ghost items = { λ s. units s.count };
+    ghost items = { λ s. units (min s.count most_items) };
 
-    ghost lawful = { λ s. record { few = omega (arith, units_length s.count, s.few); each = each_unit (units s.count) } };
+    ghost lawful = { λ s. let n = min s.count most_items in record { few = omega (arith, units_length n); each = each_unit (units n) } };
 
     fn len(&self) -> usize {
-        self.count
+        self.at()
     }
 
     #[tactic(auto, using(words::proofs::Got::got_outside, crate::specs::Units::units_length, crate::specs::Units::unit_at))]
     fn get(&self, i: usize) -> Result<(), Fault> {
-        if i >= self.count {
+        if i >= self.at() {
             return Err(Fault::Outside(i));
         }
         Ok(())
@@ -60,7 +66,7 @@ impl Payload for Empties {
 
     ghost ask = { λ _. within_answer most_items };
 
-    ghost holds = { λ s. le-leb _ _ (omega (arith, units_length s.count, s.few)) };
+    ghost holds = { λ s. le-leb _ _ (omega (arith, units_length (min s.count most_items))) };
 
     ghost empty = { Prim.search rules };
 
@@ -78,17 +84,18 @@ impl Payload for Empties {
         range_within(self, source, MOST, start, end)
     }
 
+    #[tactic(auto, using(crate::specs::Units::push_cut))]
     fn push(&mut self, x: ()) -> Result<(), Fault> {
         self.fits(x)?;
-        self.count += 1;
+        self.count = self.at() + 1;
         Ok(())
     }
 
-    #[tactic(auto, using(crate::specs::Units::append_longer))]
+    #[tactic(auto, using(crate::specs::Units::append_cut))]
     fn append(&mut self, source: &Self, start: usize, end: usize) -> Result<(), Fault> {
         self.fits_range(source, start, end)?;
         if start < end {
-            self.count += end - start;
+            self.count = self.at() + (end - start);
         }
         Ok(())
     }

@@ -20,8 +20,8 @@ pub struct Items<S: ReadStore, K: Plain<S::Item>> {
     pub(crate) store: S,
     kind: PhantomData<K>,
     owned: Owned,
-    ghost few: { length (S.ReadStore.list store) ≤ most_items },
-    ghost each: { Each K.Kind.fit (S.ReadStore.list store) } by { each_alone K.Kind.fit K.Kind.alone (S.ReadStore.list store) },
+    pub ghost few: { length (S.ReadStore.list store) ≤ most_items },
+    pub ghost each: { Each K.Kind.fit (S.ReadStore.list store) } by { each_alone K.Kind.fit K.Kind.alone (S.ReadStore.list store) },
 }
 
 // A column of words over any store of them.

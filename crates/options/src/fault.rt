@@ -48,17 +48,27 @@ impl<F: Refusal> Refusal for OptionsFault<F> {
     }
 }
 
-// The marks' fault, carried up by `?`.
-impl<F> From<Fault> for OptionsFault<F> {
-    ghost from_gives = { λ f r. r ≡ Own f };
+// A payload's fault, carried up by `?`.
+impl<F> From<F> for OptionsFault<F> {
+    ghost from_gives = { λ f r. r ≡ Somes f };
 
-    fn from(fault: Fault) -> OptionsFault<F> {
-        OptionsFault::Own(fault)
+    fn from(fault: F) -> OptionsFault<F> {
+        OptionsFault::Somes(fault)
     }
 }
 
-// What the payload answered, its fault with its side, for `?` to carry up. The marks' fault needs no such
-// call, since it has a type of its own.
+// What the marks answered, their fault as the column's own, for `?` to carry up. No `From`: that is the payload's,
+// whose fault may be of the same type. By hand, as `of_oks` of `Results`.
+pub(crate) fn of_marks<X, F>(r: Result<X, Fault>) -> Result<X, OptionsFault<F>>
+    ensures { result ≡ result_map_both (λ x. x) Own r }
+{
+    match r {
+        Ok(x) => Ok(x),
+        Err(f) => Err(OptionsFault::Own(f)),
+    }
+}
+
+// What the payload answered, its fault with its side, for `?` to carry up.
 pub fn of_somes<X, F>(r: Result<X, F>) -> Result<X, OptionsFault<F>>
     ensures { result ≡ result_map_both (λ x. x) Somes r }
 {

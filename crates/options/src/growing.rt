@@ -7,7 +7,7 @@ ghost use Rattle.columns.proofs.Marked.{marks_within};
 ghost use Rattle.options.specs.Limiting.{limited_held, limit_begins, limit_asks, limit_third};
 ghost use Rattle.std.proofs.Common.{rules};
 
-use crate::fault::{OptionsFault, of_somes};
+use crate::fault::{OptionsFault, of_marks, of_somes};
 use crate::kind::OptionsKind;
 use crate::options::Options;
 use bits::rank_select::RankSelect;
@@ -55,7 +55,7 @@ impl<T: Payload, C: GrowStore<Item = u64>, V: GrowStore<Item = u64>> Payload for
     ghost third = { λ s xs ys f e. limit_third (room_in C.GrowStore.own V.GrowStore.own s.indexes) (T.Payload.limit s.somes) (T.Payload.ask s.somes) T.Fault.Refusal.numbered (T.Payload.third s.somes) xs ys f e };
 
     fn fits(&self, x: Option<T::Item>) -> Result<(), OptionsFault<T::Fault>> {
-        self.indexes.room_for(1)?; // one mark, whichever the entry
+        of_marks(self.indexes.room_for(1))?; // one mark, whichever the entry
         // no `map_or`: the proof would have to open its closure
         match x {
             Some(v) => of_somes(self.somes.fits(v)),
@@ -72,13 +72,13 @@ impl<T: Payload, C: GrowStore<Item = u64>, V: GrowStore<Item = u64>> Payload for
         if start >= end {
             return Ok(());
         }
-        self.indexes.fits_range(&source.indexes, start, end)?;
+        of_marks(self.indexes.fits_range(&source.indexes, start, end))?;
         let (first, last) = ranks_in(&source.indexes, start, end);
         of_somes(self.somes.fits_range(&source.somes, first, last))
     }
 
     fn push(&mut self, x: Option<T::Item>) -> Result<(), OptionsFault<T::Fault>> {
-        self.indexes.room_for(1)?;
+        of_marks(self.indexes.room_for(1))?;
         // an arm ends with its own bit: the checker joins no branches in which `x` is held in part
         match x {
             Some(v) => {

@@ -7,7 +7,7 @@ ghost use Rattle.columns.specs.Kinds.{Each};
 ghost use Rattle.columns.proofs.Marked.{marks_few};
 ghost use Rattle.options.specs.EntriesLemmas.{merge_length, somes_merge, each_entry};
 
-use crate::fault::{OptionsFault, of_somes};
+use crate::fault::{OptionsFault, of_marks, of_somes};
 use crate::kind::OptionsKind;
 use bits::rank_select::RankSelect;
 use columns::column::{Column, Variant};
@@ -23,7 +23,7 @@ use words::reading::ReadStore;
 pub struct Options<T: Column, C: ReadStore<Item = u64>, V: ReadStore<Item = u64>> {
     pub(crate) indexes: RankSelect<C, V>,
     pub(crate) somes: T,
-    ghost many: { length (T.Column.items somes) ≡ ones_among (column_bits V.ReadStore indexes) },
+    pub ghost many: { length (T.Column.items somes) ≡ ones_among (column_bits V.ReadStore indexes) },
 }
 
 impl<T: Column, C: ReadStore<Item = u64>, V: ReadStore<Item = u64>> Column for Options<T, C, V> {
@@ -51,7 +51,7 @@ impl<T: Column, C: ReadStore<Item = u64>, V: ReadStore<Item = u64>> Column for O
 
     #[tactic(auto, using(columns::proofs::Marked::one_below, words::proofs::Got::got_outside, words::proofs::Got::got_there, crate::specs::EntriesLemmas::merge_length, crate::specs::EntriesLemmas::get_none, crate::specs::EntriesLemmas::get_some))]
     fn get(&self, i: usize) -> Result<Option<T::Item>, OptionsFault<T::Fault>> {
-        let some = self.indexes.get(i)?;
+        let some = of_marks(self.indexes.get(i))?;
         if some {
             let x = of_somes(self.somes.get(rank_in(&self.indexes, i)))?;
             Ok(Some(x))
@@ -64,7 +64,7 @@ impl<T: Column, C: ReadStore<Item = u64>, V: ReadStore<Item = u64>> Column for O
 impl<T: Column, C: ReadStore<Item = u64>, V: ReadStore<Item = u64>> Variant for Options<T, C, V> {
     #[tactic(auto, using(crate::specs::EntriesLemmas::marks_merge, crate::specs::EntriesLemmas::merge_length))]
     fn rank(&self, i: usize) -> Result<usize, OptionsFault<T::Fault>> {
-        Ok(self.indexes.rank(i)?)
+        of_marks(self.indexes.rank(i))
     }
 
     #[tactic(auto, using(crate::specs::EntriesLemmas::marks_merge))]

@@ -72,6 +72,17 @@ module _ {A B F G : Type 0} (room : ℕ → Bool) (lo : List A → Bool) (le : L
   pub asked_within : (xs ys : List (Result A B)) (n : ℕ) (os ot : List A) (es et : List B) → length ys ≡ n → true ≡ room n → oks xs ≡ os → oks ys ≡ ot → errs xs ≡ es → errs ys ≡ et → asked room ao ae xs ys ≡ both (ao os ot) (ae es et)
   asked_within xs ys n os ot es et q e a b c d = let r : room (length ys) ≡ true = ap room q ∙ sym e in rw (r, a, b, c, d)
 
+-- an item that is there is not refused
+pub ok_there : {X F G : Type 0} (h : ResultsFault F G) (f : F) (xs : List X) (n : ℕ) (r : Result X F) → r ≡ got f xs n → n < length xs → Err h ≢ result_map_both (λ u. u) Oks r
+ok_there h f xs n (Ok y) e l p = let w : ◌≡◌ {A = ℕ} 0 1 = cc in omega arith
+ok_there h f xs n (Err g) e l p = got_there f g xs n l e
+
 pub err_there : {X F G : Type 0} (h : ResultsFault F G) (f : G) (xs : List X) (n : ℕ) (r : Result X G) → r ≡ got f xs n → n < length xs → Err h ≢ result_map_both (λ u. u) Errs r
 err_there h f xs n (Ok y) e l p = let w : ◌≡◌ {A = ℕ} 0 1 = cc in omega arith
 err_there h f xs n (Err g) e l p = got_there f g xs n l e
+
+pub limited_same : {A B : Type 0} {r s : ℕ → Bool} {k l : List A → Bool} {m n : List B → Bool} → r ≡ s → k ≡ l → m ≡ n → limited r k m ≡ limited s l n
+limited_same {s = s} {k = k} {l = l} {m = m} p q t = ap (λ x. limited x k m) p ∙ ap (λ x. limited s x m) q ∙ ap (limited s l) t
+
+pub asked_same : {A B F G : Type 0} {r s : ℕ → Bool} {k l : List A → List A → Result (Unit {0}) F} {m n : List B → List B → Result (Unit {0}) G} → r ≡ s → k ≡ l → m ≡ n → asked r k m ≡ asked s l n
+asked_same {s = s} {k = k} {l = l} {m = m} p q t = ap (λ x. asked x k m) p ∙ ap (λ x. asked s x m) q ∙ ap (asked s l) t

@@ -24,8 +24,8 @@ pub struct Results<S: Column, T: Column, C: ReadStore<Item = u64>, V: ReadStore<
     pub(crate) indexes: RankSelect<C, V>,
     pub(crate) oks: S,
     pub(crate) errs: T,
-    ghost ones: { length (S.Column.items oks) ≡ ones_among (column_bits V.ReadStore indexes) },
-    ghost zeros: { ones_among (column_bits V.ReadStore indexes) + length (T.Column.items errs) ≡ length (column_bits V.ReadStore indexes) },
+    pub ghost ones: { length (S.Column.items oks) ≡ ones_among (column_bits V.ReadStore indexes) },
+    pub ghost zeros: { ones_among (column_bits V.ReadStore indexes) + length (T.Column.items errs) ≡ length (column_bits V.ReadStore indexes) },
 }
 
 impl<S: Column, T: Column, C: ReadStore<Item = u64>, V: ReadStore<Item = u64>> Column

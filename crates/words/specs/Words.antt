@@ -31,3 +31,7 @@ buffer_room n = min most n
 
 abbrev pub buffer_list : {A : Type 0} → List A → ℕ → List A
 buffer_list xs used = take (min used (buffer_room (length xs))) xs
+
+-- the words of a table of 64 places that are in use
+abbrev pub table_list : List ℕ → ℕ → List ℕ
+table_list ws used = take (min used 64) ws

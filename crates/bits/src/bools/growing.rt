@@ -31,9 +31,15 @@ impl<V: GrowStore<Item = u64>> Bools<V> {
     }
 
     // Whether there is room for `n` more bits: refused with 3 where there is not.
+    #[inline]
+    #[tactic(auto, using(crate::proofs::Growing::pushed, crate::proofs::Growing::words_tail))]
     fn room_for(&self, n: usize) -> Result<(), Fault>
         ensures { result ≡ push_answer (bits_in V.ReadStore self.now) (fits_words (length (bits_in V.ReadStore self.now) + n) (V.GrowStore.room self.now.values)) }
     {
+        // bits that stay in the tail pass no limit
+        if n < WORD - self.tail.bits {
+            return Ok(());
+        }
         let len = self.len();
         if self.has_room(len.saturating_add(n)) {
             Ok(())
@@ -52,10 +58,10 @@ impl<V: GrowStore<Item = u64>> Bools<V> {
     {
         let tail = self.tail;
         if tail.bits + group.count < WORD {
-            self.tail = tail.with(group);
+            self.tail = tail.with(group.word, group.count);
         } else {
             put_in(&mut self.values, tail.joined(group.word));
-            self.tail = tail.rest(group);
+            self.tail = tail.rest(group.word, group.count);
         }
     }
 

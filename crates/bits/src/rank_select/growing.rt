@@ -31,6 +31,7 @@ impl<C: GrowStore<Item = u64>, V: GrowStore<Item = u64>> RankSelect<C, V> {
     }
 
     // Whether there is room for `n` more bits: refused with 3 where there is not.
+    #[inline]
     #[tactic(auto, using(crate::proofs::Growing::pushed, crate::proofs::Growing::fits_tail))]
     pub fn room_for(&self, n: usize) -> Result<(), Fault>
         ensures { result ≡ push_answer (column_bits V.ReadStore self.now) (room_in C.GrowStore.own V.GrowStore.own self.now (length (column_bits V.ReadStore self.now) + n)) }
