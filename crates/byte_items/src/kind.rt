@@ -23,8 +23,6 @@ impl Kind<u8> for BytesKind {
 
     ghost fit = { λ b. b < 256 };
 
-    ghost alone = { λ _. le_prop };
-
     ghost form = { λ xs. bytes_slice xs ∷ [] };
 
     ghost sizes = { 1 ∷ [] };
@@ -54,6 +52,12 @@ impl Plain<u8> for BytesKind {
     ghost width = { 1 };
 
     ghost words = { λ xs. pack (up (length xs)) xs };
+
+    ghost fitting = { λ b. b < 256 };
+
+    ghost alone = { λ _. le_prop };
+
+    ghost given = { λ _ h. h };
 
     ghost sole = { Packed.sole };
 

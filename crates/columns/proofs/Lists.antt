@@ -35,6 +35,11 @@ module _ {A : Type 0} (P : A → Type 0) where
   each_alone h [] = Unit-prop
   each_alone h (x ∷ xs) = ×_prop (h x) (each_alone h xs)
 
+  -- what follows of each item from what holds of it
+  pub each_given : (Q : A → Type 0) → ((x : A) → P x → Q x) → (xs : List A) → Each P xs → Each Q xs
+  each_given Q h [] e = tt
+  each_given Q h (x ∷ xs) e = (h x e.0, each_given Q h xs e.1)
+
   pub each_take : (n : ℕ) (xs : List A) → Each P xs → Each P (take n xs)
   each_take zero xs h = tt
   each_take (suc n) [] h = tt

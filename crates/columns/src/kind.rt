@@ -20,9 +20,6 @@ pub trait Kind<I> {
     // The item fits its type.
     ghost fit: { I → Type 0 };
 
-    // It fits in one way only, so that a struct may keep the fact.
-    ghost alone: { (x : I) → IsProp (fit x) };
-
     // The stored form of a list.
     ghost form: { List I → List Slice };
 
@@ -56,11 +53,19 @@ pub trait Plain<I>: Kind<I> {
     // The words of the slice.
     ghost words: { List I → List ℕ };
 
+    // The item fits its type: the kind's `fit`, as a fact that holds in one way only, so that a struct may keep it.
+    ghost fitting: { I → Type 0 };
+
+    ghost alone: { (x : I) → IsProp (fitting x) };
+
     fn fits(x: I)
-        ensures { Self.Kind.fit x };
+        ensures fit { Self.Kind.fit x }
+        ensures fitting { fitting x };
 
     fn width() -> usize
         ensures { result ≡ width };
+
+    ghost given: { (x : I) → fitting x → Self.Kind.fit x };
 
     ghost sole: { (xs : List I) → Self.Kind.form xs ≡ one_slice width words xs };
 }

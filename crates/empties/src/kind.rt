@@ -1,5 +1,4 @@
 ghost use Rattle.std.specs.Prelude.{◌≡◌, false, [], ◌∷◌, length};
-ghost use Rattle.std.specs.Coded.{Unit-prop};
 ghost use Rattle.empties.specs.Counts.{count_slice};
 ghost use Rattle.std.proofs.Common.{ap, rules};
 ghost use Rattle.empties.specs.Counts;
@@ -15,8 +14,6 @@ impl Kind<()> for EmptiesKind {
 
     // every unit fits
     ghost fit = { λ _. Unit {0} };
-
-    ghost alone = { λ _. Unit-prop };
 
     ghost form = { λ xs. count_slice xs ∷ [] };
 

@@ -2,7 +2,7 @@ ghost use Rattle.std.specs.Prelude.{◌≡◌, ℕ, ◌+◌, ◌-◌, ◌<◌, �
 ghost use Rattle.columns.specs.Kinds.{Each, most_items};
 ghost use Rattle.columns.specs.Plain.{part, within, within_answer};
 ghost use Rattle.std.proofs.Common.{rules, le-leb};
-ghost use Rattle.columns.proofs.Lists.{each_alone};
+ghost use Rattle.columns.proofs.Lists.{each_alone, each_given};
 ghost use Rattle.columns.proofs.Within.{within_begins, within_asks, within_third};
 
 use crate::kind::WordsKind;
@@ -21,7 +21,7 @@ pub struct Items<S: ReadStore, K: Plain<S::Item>> {
     kind: PhantomData<K>,
     owned: Owned,
     pub ghost few: { length (S.ReadStore.list store) ≤ most_items },
-    pub ghost each: { Each K.Kind.fit (S.ReadStore.list store) } by { each_alone K.Kind.fit K.Kind.alone (S.ReadStore.list store) },
+    pub ghost each: { Each K.Plain.fitting (S.ReadStore.list store) } by { each_alone K.Plain.fitting K.Plain.alone (S.ReadStore.list store) },
 }
 
 // A column of words over any store of them.
@@ -64,7 +64,7 @@ impl<S: ReadStore, K: Plain<S::Item>> Column for Items<S, K> {
 
     ghost items = { λ s. S.ReadStore.list s.store };
 
-    ghost lawful = { λ s. record { few = s.few; each = s.each } };
+    ghost lawful = { λ s. record { few = s.few; each = each_given K.Plain.fitting K.Kind.fit K.Plain.given (S.ReadStore.list s.store) s.each } };
 
     fn len(&self) -> usize {
         self.store.len()

@@ -14,8 +14,6 @@ impl Kind<u64> for WordsKind {
 
     ghost fit = { λ w. w < 2 ^ 64 };
 
-    ghost alone = { λ _. le_prop };
-
     ghost form = { λ xs. words_slice xs ∷ [] };
 
     ghost sizes = { 8 ∷ [] };
@@ -41,6 +39,12 @@ impl Plain<u64> for WordsKind {
     ghost width = { 8 };
 
     ghost words = { λ xs. xs };
+
+    ghost fitting = { λ w. w < 2 ^ 64 };
+
+    ghost alone = { λ _. le_prop };
+
+    ghost given = { λ _ h. h };
 
     ghost sole = { Prim.search rules };
 

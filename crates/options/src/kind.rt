@@ -6,7 +6,7 @@ ghost use Rattle.std.proofs.lemmas.List.{length-map};
 ghost use Rattle.columns.specs.Variants;
 ghost use Rattle.columns.proofs.Slices.{formed_append, bits_formed, whole_append, bits_whole, bits_single};
 ghost use Rattle.options.specs.Entries;
-ghost use Rattle.options.specs.EntriesLemmas.{fits_alone, lawful_somes, joined};
+ghost use Rattle.options.specs.EntriesLemmas.{lawful_somes, joined};
 
 use columns::kind::{CUT, Kind, MARK_SIZE, MARK_SLICES};
 
@@ -17,8 +17,6 @@ impl<I, K: Kind<I>> Kind<Option<I>> for OptionsKind<K> {
     ghost one = { is_some };
 
     ghost fit = { Fits K.Kind.fit };
-
-    ghost alone = { fits_alone K.Kind.fit K.Kind.alone };
 
     ghost form = { λ xs. bits_form (some_marks xs) ++ K.Kind.form (somes xs) };
 

@@ -6,7 +6,7 @@ ghost use Rattle.std.proofs.lemmas.List.{length-map};
 ghost use Rattle.columns.specs.Variants;
 ghost use Rattle.columns.proofs.Slices.{formed_append, bits_formed, whole_append, bits_whole, append_parts, bits_single};
 ghost use Rattle.results.specs.Entries;
-ghost use Rattle.results.specs.EntriesLemmas.{fits_alone, lawful_oks, lawful_errs, joined};
+ghost use Rattle.results.specs.EntriesLemmas.{lawful_oks, lawful_errs, joined};
 
 use columns::kind::{CUT, Kind, MARK_SIZE, MARK_SLICES};
 
@@ -18,8 +18,6 @@ impl<I, J, K: Kind<I>, L: Kind<J>> Kind<Result<I, J>> for ResultsKind<K, L> {
     ghost one = { is_ok };
 
     ghost fit = { Fits K.Kind.fit L.Kind.fit };
-
-    ghost alone = { fits_alone K.Kind.fit L.Kind.fit K.Kind.alone L.Kind.alone };
 
     ghost form = { λ xs. bits_form (ok_marks xs) ++ (K.Kind.form (oks xs) ++ L.Kind.form (errs xs)) };
 
