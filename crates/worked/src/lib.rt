@@ -2,5 +2,6 @@
 #![tactic(auto)]
 
 mod bit_columns;
+mod routes;
 pub mod table;
 mod writing;

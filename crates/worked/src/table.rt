@@ -2,7 +2,9 @@ ghost use Rattle.std.specs.Prelude.{◌≡◌, true, [], ◌∷◌, Some, None, 
 ghost use Rattle.refusals.specs.declared.fault.Fault.TheVariants.{Outside};
 
 use crate::bit_columns::{counts_of_ones, of_far_rank, of_group, of_none, of_three, of_walk};
+use crate::routes::{Nested, of_rounds, of_times};
 use crate::writing::{of_size, of_writing};
+use options::fault::OptionsFault;
 use refusals::fault::Fault;
 
 // What the calls of the examples answered.
@@ -34,6 +36,13 @@ pub struct Table {
     // behind it
     pub size: Result<usize, Fault>,
     pub written: (Result<usize, Fault>, [u64; 9]),
+    // a route of Some 500, None: its length, and the first
+    pub times: (usize, Result<Option<u64>, OptionsFault<Fault>>),
+    // a route of Some None, None: both
+    pub rounds: (
+        Result<Option<Option<u64>>, Nested>,
+        Result<Option<Option<u64>>, Nested>,
+    ),
 }
 
 // The examples worked by hand, as one table.
@@ -47,6 +56,8 @@ pub fn worked() -> Table
     ensures walk { result.walk ≡ (Ok (Some 63), Ok (Some true), Ok (Some 129)) }
     ensures size { result.size ≡ Ok 9 }
     ensures written { result.written ≡ (Ok 9, 40 ∷ 40 ∷ 40 ∷ 56 ∷ 72 ∷ 5 ∷ 3 ∷ 7 ∷ 9 ∷ []) }
+    ensures times { result.times ≡ (2, Ok (Some 500)) }
+    ensures rounds { result.rounds ≡ (Ok (Some None), Ok None) }
 {
     Table {
         none: of_none(),
@@ -58,5 +69,7 @@ pub fn worked() -> Table
         walk: of_walk(),
         size: of_size(),
         written: of_writing(),
+        times: of_times(),
+        rounds: of_rounds(),
     }
 }
