@@ -18,15 +18,15 @@ pub struct Route<T: Column> {
 }
 
 // The same for any store of words, and for columns of columns: a name and no struct of its own, since the
-// checker refuses a column over `Words<S>` as the field of a struct over `S`.
+// checker refuses a column over `Words<S>` anywhere within the fields of a struct over `S`.
 type Times<S> = Route<Words<S>>;
 
 type Rounds<T> = Route<Options<T, Table64, Table64>>;
 
-// Why a column of options of options refuses.
-pub type Nested = OptionsFault<OptionsFault<Fault>>;
+// Why a route of rounds refuses.
+pub type RoundsFault = OptionsFault<OptionsFault<Fault>>;
 
-// No doors, their times in a store that is cleared.
+// No doors, their times to stand in a store that is cleared.
 fn no_times<S: GrowStore<Item = u64>>(store: S) -> Times<S>
     ensures { merge (column_bits tabled result.doors.indexes) (S.ReadStore.list result.doors.somes.store) ≡ [] }
 {
@@ -35,13 +35,15 @@ fn no_times<S: GrowStore<Item = u64>>(store: S) -> Times<S>
     }
 }
 
-fn times<S: ReadStore<Item = u64>>(route: &Times<S>) -> usize
+// The number of doors.
+fn doors<S: ReadStore<Item = u64>>(route: &Times<S>) -> usize
     ensures { result ≡ length (merge (column_bits tabled route.now.doors.indexes) (S.ReadStore.list route.now.doors.somes.store)) }
 {
     route.doors.len()
 }
 
-// No doors, each with a visit or none in any number of rounds, in a column that is cleared.
+// No doors: a door will be on the round or not, and one that is has a visit or none, in a column that is
+// cleared.
 fn no_rounds<T: Payload>(visits: T) -> Rounds<T>
     ensures { merge (column_bits tabled result.doors.indexes) (merge (column_bits tabled result.doors.somes.indexes) (T.Column.items result.doors.somes.somes)) ≡ [] }
 {
@@ -51,25 +53,37 @@ fn no_rounds<T: Payload>(visits: T) -> Rounds<T>
     }
 }
 
-// Two doors, one visited at 500 and one not: their number, and the first.
-pub fn of_times() -> (usize, Result<Option<u64>, OptionsFault<Fault>>)
-    ensures { result ≡ (2, Ok (Some 500)) }
+// Two doors, one visited at 500 and one not: their number, and both.
+pub fn of_times() -> (
+    usize,
+    Result<Option<u64>, OptionsFault<Fault>>,
+    Result<Option<u64>, OptionsFault<Fault>>,
+)
+    ensures { result ≡ (2, Ok (Some 500), Ok None) }
 {
     let mut route = no_times(Table64::new());
     let _ = route.doors.push(Some(500));
     let _ = route.doors.push(None);
-    (times(&route), route.doors.get(0))
+    (doors(&route), route.doors.get(0), route.doors.get(1))
 }
 
-// One door on the round and not visited, and one not on it: both.
+// Three doors: on the round and not visited, not on it, and visited at 500. Their number, and all three.
 pub fn of_rounds() -> (
-    Result<Option<Option<u64>>, Nested>,
-    Result<Option<Option<u64>>, Nested>,
+    usize,
+    Result<Option<Option<u64>>, RoundsFault>,
+    Result<Option<Option<u64>>, RoundsFault>,
+    Result<Option<Option<u64>>, RoundsFault>,
 )
-    ensures { result ≡ (Ok (Some None), Ok None) }
+    ensures { result ≡ (3, Ok (Some None), Ok None, Ok (Some (Some 500))) }
 {
     let mut route = no_rounds(Words::new(Table64::new()));
     let _ = route.doors.push(Some(None));
     let _ = route.doors.push(None);
-    (route.doors.get(0), route.doors.get(1))
+    let _ = route.doors.push(Some(Some(500)));
+    (
+        route.doors.len(),
+        route.doors.get(0),
+        route.doors.get(1),
+        route.doors.get(2),
+    )
 }

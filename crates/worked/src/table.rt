@@ -2,7 +2,7 @@ ghost use Rattle.std.specs.Prelude.{◌≡◌, true, [], ◌∷◌, Some, None, 
 ghost use Rattle.refusals.specs.declared.fault.Fault.TheVariants.{Outside};
 
 use crate::bit_columns::{counts_of_ones, of_far_rank, of_group, of_none, of_three, of_walk};
-use crate::routes::{Nested, of_rounds, of_times};
+use crate::routes::{RoundsFault, of_rounds, of_times};
 use crate::writing::{of_size, of_writing};
 use options::fault::OptionsFault;
 use refusals::fault::Fault;
@@ -36,12 +36,18 @@ pub struct Table {
     // behind it
     pub size: Result<usize, Fault>,
     pub written: (Result<usize, Fault>, [u64; 9]),
-    // a route of Some 500, None: its length, and the first
-    pub times: (usize, Result<Option<u64>, OptionsFault<Fault>>),
-    // a route of Some None, None: both
+    // a route of Some 500, None: its length, and both
+    pub times: (
+        usize,
+        Result<Option<u64>, OptionsFault<Fault>>,
+        Result<Option<u64>, OptionsFault<Fault>>,
+    ),
+    // a route of Some None, None, Some Some 500: its length, and all three
     pub rounds: (
-        Result<Option<Option<u64>>, Nested>,
-        Result<Option<Option<u64>>, Nested>,
+        usize,
+        Result<Option<Option<u64>>, RoundsFault>,
+        Result<Option<Option<u64>>, RoundsFault>,
+        Result<Option<Option<u64>>, RoundsFault>,
     ),
 }
 
@@ -56,8 +62,8 @@ pub fn worked() -> Table
     ensures walk { result.walk ≡ (Ok (Some 63), Ok (Some true), Ok (Some 129)) }
     ensures size { result.size ≡ Ok 9 }
     ensures written { result.written ≡ (Ok 9, 40 ∷ 40 ∷ 40 ∷ 56 ∷ 72 ∷ 5 ∷ 3 ∷ 7 ∷ 9 ∷ []) }
-    ensures times { result.times ≡ (2, Ok (Some 500)) }
-    ensures rounds { result.rounds ≡ (Ok (Some None), Ok None) }
+    ensures times { result.times ≡ (2, Ok (Some 500), Ok None) }
+    ensures rounds { result.rounds ≡ (3, Ok (Some None), Ok None, Ok (Some (Some 500))) }
 {
     Table {
         none: of_none(),
